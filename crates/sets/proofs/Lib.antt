@@ -1,0 +1,4 @@
+pub mod BitLaws
+pub mod MemberLaws
+pub mod Gathering
+pub mod Listing
