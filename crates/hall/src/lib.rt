@@ -1,0 +1,17 @@
+// The record of a hall, the small hall of docs/MODEL.md, and how both are shown.
+mod record;
+mod show;
+mod small;
+
+pub use record::Hall;
+pub use record::HallRecord;
+pub use record::HallTest;
+pub use show::EntryLine;
+pub use show::EntryLineDisplay;
+pub use show::Numbers;
+pub use show::NumbersDisplay;
+pub use show::RuleLine;
+pub use show::RuleLineDisplay;
+pub use small::small_entries;
+pub use small::small_register;
+pub use small::small_rules;
