@@ -1,4 +1,7 @@
 ghost use Rattle.kinds.specs.Shipped.{level};
+ghost use Rattle.kinds.specs.Readings.{read-level};
+use crate::file_kind::FileKind;
+use crate::file_kind::TestFault;
 use crate::kind::Kind;
 
 // A level from 0 to 65,535. A test is a level, met by that one and all above it.
@@ -25,5 +28,16 @@ pub impl Kind for Level as LevelKind {
 
     fn implies(s: u16, t: u16) -> bool {
         t <= s
+    }
+}
+
+pub impl FileKind for Level as LevelFile {
+    ghost reads = { read-level };
+
+    fn read_test(bytes: &[u8]) -> Result<(u16, usize), TestFault> {
+        let [low, high, ..] = bytes else {
+            return Err(TestFault::TooShort);
+        };
+        Ok((u16::from_le_bytes([*low, *high]), 2))
     }
 }

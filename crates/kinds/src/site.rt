@@ -1,4 +1,8 @@
 ghost use Rattle.kinds.specs.Shipped.{site};
+ghost use Rattle.kinds.specs.Readings.{read-set};
+use crate::file_kind::FileKind;
+use crate::file_kind::TestFault;
+use crate::file_kind::read_set;
 use crate::kind::Kind;
 use sets::Set;
 
@@ -26,5 +30,13 @@ pub impl Kind for Site as SiteKind {
 
     fn implies(s: Set, t: Set) -> bool {
         !s.is_empty() && s.is_subset(t)
+    }
+}
+
+pub impl FileKind for Site as SiteFile {
+    ghost reads = { read-set };
+
+    fn read_test(bytes: &[u8]) -> Result<(Set, usize), TestFault> {
+        read_set(bytes)
     }
 }

@@ -21,6 +21,7 @@ pub use permission::Permission;
 pub use permission::PermissionPolicy;
 pub use policy::Policy;
 pub use rule::Rule;
+pub use rule::RuleClone;
 pub use seniority::Seniority;
 pub use shipped::Shipped;
 pub use shipped::ShippedPolicy;

@@ -8,7 +8,7 @@ use lib.ListN.{length, take, getD}
 use native.Mathlib.Omega.{arith}
 use Rattle.std.proofs.shelf.Lists.{take-more}
 use Rattle.sets.specs.declared.set.Set.{Set}
-use Rattle.sets.specs.Members.{bit, member, listed, these, all}
+use Rattle.sets.specs.Members.{bit, member, listed, these, all, numbered}
 use Rattle.sets.proofs.BitLaws.{bit-zero, bit-or, bit-one, bit-ones, bit-mod}
 use Rattle.sets.proofs.MemberLaws.{same-members}
 
@@ -45,3 +45,8 @@ listing-more xs i s t lt before more k =
 
 pub listing-all : (xs : List ℕ) (s : Set) → ((k : ℕ) → member s k ≡ (listed k xs && ltb k 64)) → s ≡ these xs
 listing-all xs s is = same-members s (these xs) (λ k. is k ∙ sym (member-these xs k))
+
+-- a number that fits is the number of its set
+pub numbered-is : (n m : ℕ) (h : n < 2 ^ 64) → n ≡ m → _≡_ {A = Set} (record { bits = n; small = h }) (numbered m)
+unfolding member
+numbered-is n m h e = same-members (record { bits = n; small = h }) (numbered m) (λ k. ap (λ z. bit z k) (let q : n ≡ m % 2 ^ 64 = omega arith in q))

@@ -10,7 +10,7 @@ use Rattle.std.specs.Orderings.{Decides}
 use Rattle.std.proofs.shelf.Tests.{cases-lt, cases-bool, both-ways, and-from, and-left, and-right, and-cases, and-parts, not-from-true, not-from-false, not-true, not-false, eqb-true, eq-eqb}
 use Rattle.std.proofs.shelf.Ways.{decides-below-or, not-from-decides}
 use Rattle.sets.specs.declared.set.Set.{Set}
-use Rattle.sets.specs.Members.{bit, member, some-below, some, empty, subset}
+use Rattle.sets.specs.Members.{bit, member, some-below, some, empty, subset, disjoint}
 use Rattle.sets.proofs.BitLaws.{bit-zero, bit-past, bit-and, same-bits}
 
 pub member-past : (s : Set) (i : ℕ) → 64 ≤ i → member s i ≡ false
@@ -59,6 +59,16 @@ subset-decides s t = (
   (λ h. not-from-false (some (λ k. member s k && not (member t k))) (none-some (λ k. member s k && not (member t k)) (λ i _.
       ⊎-elim (λ m. and-right (member s i) (not (member t i)) (not-from-true (member t i) (h i m))) (λ n. and-left (member s i) (not (member t i)) n) (cases-bool (member s i))))),
 )
+
+pub disjoint-decides : (s t : Set) → Decides (disjoint s t) ((i : ℕ) → member s i ≡ true → member t i ≡ false)
+unfolding disjoint
+disjoint-decides s t =
+    ( (λ e i m.
+        let f : ℕ → Bool = λ k. member s k && member t k in
+        let none = none-passes f (not-true (some f) e) i (member-below s i m) in
+        ⊎-elim (λ y. absurd (both-ways (f i) none (and-from (member s i) (member t i) m y))) (λ n. n) (cases-bool (member t i)))
+    , (λ h. not-from-false (some (λ k. member s k && member t k)) (none-some (λ k. member s k && member t k) (λ i _.
+        ⊎-elim (λ m. and-right (member s i) (member t i) (h i m)) (λ n. and-left (member s i) (member t i) n) (cases-bool (member s i))))) )
 
 -- what the code's tests on numbers tell of members
 pub zero-decides : (s : Set) → Decides (eqb (s .bits) 0) ((i : ℕ) → member s i ≡ false)

@@ -1,2 +1,3 @@
+pub mod Bytes
 pub mod Members
 pub mod Readout

@@ -4,9 +4,11 @@
 --     some f          some number 0 to 63 passes the test f
 --     empty s         no number is in s
 --     subset s t      no number is in s and not in t
+--     disjoint s t    no number is in both
 --     listed k xs     k is among the numbers xs
 --     these xs        the set of those of the numbers xs that are below 64
 --     all             the set of all numbers 0 to 63
+--     numbered n      the set of the binary digits of n that are 1, of its first 64
 --     Lowest-from s from i    i is in s and at least `from`, and no lower number is both
 --     Empty-from s from       no number that is at least `from` is in s
 use Prim.Native.Nat.{ℕ, zero, suc, _-_, _/_, _%_, _^_, _<_, _≤_}
@@ -38,6 +40,9 @@ empty s = not (some (member s))
 unfoldable pub subset : Set → Set → Bool
 subset s t = not (some (λ i. member s i && not (member t i)))
 
+unfoldable pub disjoint : Set → Set → Bool
+disjoint s t = not (some (λ i. member s i && member t i))
+
 abbrev pub listed : ℕ → List ℕ → Bool
 listed k [] = false
 listed k (x ∷ xs) = eqb k x || listed k xs
@@ -51,6 +56,9 @@ these (x ∷ xs) = record {
 
 abbrev pub all : Set
 all = record { bits = 2 ^ 64 - 1; small = lit< tt }
+
+abbrev pub numbered : ℕ → Set
+numbered n = record { bits = n % 2 ^ 64; small = mod-below n (2 ^ 64) (lit< tt) }
 
 pub record Lowest-from (s : Set) (from i : ℕ) : Type 0 where
   pub held : member s i ≡ true

@@ -3,7 +3,7 @@ ghost use mathlib.Core.Path.{_≡_};
 ghost use mathlib.Core.Bool.{true, false};
 ghost use Rattle.std.specs.Options.{Cases as BySome};
 ghost use Rattle.std.specs.Orderings.{Decides};
-ghost use Rattle.sets.specs.Members.{member, empty, subset, Lowest-from, Empty-from};
+ghost use Rattle.sets.specs.Members.{member, empty, subset, disjoint, Lowest-from, Empty-from};
 use super::Set;
 
 impl Set {
@@ -28,6 +28,7 @@ impl Set {
     }
 
     pub fn is_disjoint(self, other: Set) -> bool
+        ensures answers_whether_they_are_disjoint { λ r. ⌜ r ≡ disjoint self other ⌝ }
         ensures tells_whether_no_member_is_in_the_other { λ r. ⌜ Decides r ((i : ℕ) → member self i ≡ true → member other i ≡ false) ⌝ }
     {
         self.bits & other.bits == 0

@@ -2,7 +2,8 @@ ghost use Prim.Native.Nat.{ℕ};
 ghost use mathlib.Core.Path.{_≡_};
 ghost use mathlib.Core.Bool.{false, _&&_, _||_};
 ghost use lib.Dec.{eqb, ltb};
-ghost use Rattle.sets.specs.Members.{bit, member, listed, these, all};
+ghost use Rattle.sets.specs.Bytes.{little};
+ghost use Rattle.sets.specs.Members.{bit, member, listed, these, all, numbered};
 use super::Set;
 
 impl Set {
@@ -33,11 +34,12 @@ impl Set {
         set
     }
 
-    // The numbers whose binary digit in `bits` is 1.
-    pub fn from_bits(bits: u64) -> Set
-        ensures members_are_the_digits_that_are_one { λ r. ⌜ ((k : ℕ) → member r k ≡ bit bits k) ⌝ }
+    // The numbers whose bit is 1 in the 8 bytes, the low byte first.
+    pub fn from_le_bytes(bytes: [u8; 8]) -> Set
+        ensures members_are_the_bits_that_are_one { λ r. ⌜ ((k : ℕ) → member r k ≡ bit (little 8 bytes) k) ⌝ }
+        ensures is_the_set_of_that_number { λ r. ⌜ r ≡ numbered (little 8 bytes) ⌝ }
     {
-        Set { bits }
+        Set { bits: u64::from_le_bytes(bytes) }
     }
 
     // This set and the number i; one above 63 cannot be held and is left out.

@@ -1,0 +1,10 @@
+pub mod FrameLaws
+pub mod RuleReading
+pub mod Admitting
+pub mod Runs
+pub mod Filing
+pub mod Stepping
+pub mod Filed
+pub mod Telling
+pub mod Refusing
+pub mod Told

@@ -1,0 +1,9 @@
+pub mod Faults
+pub mod Fields
+pub mod Drafts
+pub mod Frames
+pub mod Contents
+pub mod Files
+pub mod Progress
+pub mod Scans
+pub mod Steps
