@@ -53,21 +53,23 @@ module _ {X : Type 0} (limit : ℕ) (xs : List X) (x : X) (before after : ℕ) (
       let w : ys ≡ set xs before x = st .written ∙ ap (λ z. cond (isOk z) (set xs before x) xs) g in
       let k : before < length xs = ltb-true before (length xs) (and-parts (ltb before limit) (ltb before (length xs)) fits .1) in
       let l : before < before + 1 = omega arith in
-      record
-        { granted = g
-        ; next = n
-        ; within = k
-        ; front = rw (w, n) (take-more-set xs before x k)
-        ; rest = rw (w, n) (drop-set-lt (before + 1) xs before x l)
-        ; long = rw w (length-set xs before x) }
+      record {
+        granted = g;
+        next = n;
+        within = k;
+        front = rw (w, n) (take-more-set xs before x k);
+        rest = rw (w, n) (drop-set-lt (before + 1) xs before x l);
+        long = rw w (length-set xs before x);
+      }
 
   stored-same : has-room limit before xs ≡ false → Same xs before after ys r
   stored-same none =
       let g : r ≡ Err Full = st .answer ∙ cond-false _ _ _ none in
-      record
-        { refused = g
-        ; still = st .counted ∙ ap (λ z. cond (isOk z) (before + 1) before) g
-        ; memory = st .written ∙ ap (λ z. cond (isOk z) (set xs before x) xs) g }
+      record {
+        refused = g;
+        still = st .counted ∙ ap (λ z. cond (isOk z) (before + 1) before) g;
+        memory = st .written ∙ ap (λ z. cond (isOk z) (set xs before x) xs) g;
+      }
 
 -- room by the count is room by what stands there
 room-is : {X : Type 0} (limit count : ℕ) (xs : List X) → count ≤ length xs → one-more limit (length xs) (take count xs) ≡ has-room limit count xs
@@ -87,28 +89,30 @@ module _ {S : Type 0} (s : Scan) (d : Draft) (rs : List (Rule S)) (es : List Ent
       let e = room-is 64 (s .draft .rules) rs (room .rules) in
       let kept : take (d .entries) es ≡ take (s .draft .entries) es = ap (λ k. take k es) stay in
       let a : accepts (length rs) (length es) (progress s rs es) content ≡ cond (one-more 64 (length rs) (take (s .draft .rules) rs)) (Ok (record { begun = s .begun; ended = s .ended; policy = s .policy; rules = take (s .draft .rules) rs ++ rule ∷ []; entries = take (s .draft .entries) es })) (Err Full) =
-        ap (accepts (length rs) (length es) (progress s rs es)) is ∙ cond-true _ _ _ b in
+      ap (accepts (length rs) (length es) (progress s rs es)) is ∙ cond-true _ _ _ b in
       ⊎-elim
       (λ fits.
-        let x = stored-more 64 rs rule (s .draft .rules) (d .rules) rs′ r st fits in
-        let v = a ∙ cond-true _ _ _ (e ∙ fits) in
-        let f = x .front in
-        record
-          { answered = x .granted ∙ sym (ap answer v)
-          ; taken = (let w : progress t rs′ es ≡ record { begun = s .begun; ended = s .ended; policy = s .policy; rules = take (s .draft .rules) rs ++ rule ∷ []; entries = take (s .draft .entries) es } = cc in w) ∙ sym (ap (after (progress s rs es)) v)
-          ; room = record { rules = let l = x .long in let n = x .next in let k = x .within in omega arith; entries = let h = room .entries in omega arith }
-          ; rest = record { more-rules = let n = x .next in omega arith; more-entries = omega arith; rules = x .rest; entries = refl } })
+      let x = stored-more 64 rs rule (s .draft .rules) (d .rules) rs′ r st fits in
+      let v = a ∙ cond-true _ _ _ (e ∙ fits) in
+      let f = x .front in
+      record {
+        answered = x .granted ∙ sym (ap answer v);
+        taken = (let w : progress t rs′ es ≡ record { begun = s .begun; ended = s .ended; policy = s .policy; rules = take (s .draft .rules) rs ++ rule ∷ []; entries = take (s .draft .entries) es } = cc in w) ∙ sym (ap (after (progress s rs es)) v);
+        room = record { rules = let l = x .long in let n = x .next in let k = x .within in omega arith; entries = let h = room .entries in omega arith };
+        rest = record { more-rules = let n = x .next in omega arith; more-entries = omega arith; rules = x .rest; entries = refl };
+      })
       (λ none.
-        let x = stored-same 64 rs rule (s .draft .rules) (d .rules) rs′ r st none in
-        let v = a ∙ cond-false _ _ _ (e ∙ none) in
-        let m = x .memory in
-        let n = x .still in
-        let same : take (d .rules) rs′ ≡ take (s .draft .rules) rs = cc in
-        record
-          { answered = x .refused ∙ sym (ap answer v)
-          ; taken = (let w : progress t rs′ es ≡ progress s rs es = cc in w) ∙ sym (ap (after (progress s rs es)) v)
-          ; room = record { rules = let h = room .rules in let l = ap length m in omega arith; entries = let h = room .entries in omega arith }
-          ; rest = record { more-rules = omega arith; more-entries = omega arith; rules = ap (drop (d .rules)) m; entries = refl } })
+      let x = stored-same 64 rs rule (s .draft .rules) (d .rules) rs′ r st none in
+      let v = a ∙ cond-false _ _ _ (e ∙ none) in
+      let m = x .memory in
+      let n = x .still in
+      let same : take (d .rules) rs′ ≡ take (s .draft .rules) rs = cc in
+      record {
+        answered = x .refused ∙ sym (ap answer v);
+        taken = (let w : progress t rs′ es ≡ progress s rs es = cc in w) ∙ sym (ap (after (progress s rs es)) v);
+        room = record { rules = let h = room .rules in let l = ap length m in omega arith; entries = let h = room .entries in omega arith };
+        rest = record { more-rules = omega arith; more-entries = omega arith; rules = ap (drop (d .rules)) m; entries = refl };
+      })
       (cases-bool (has-room 64 (s .draft .rules) rs))
 
   pub entry-done : (es′ : List Entry) (content : Content S) (entry : Entry) (u : Unit {0}) (r : Result (Unit {0}) BookFault) → content ≡ NewEntry entry → _≡_ {A = Result (Unit {0}) BookFault} (Ok u) (cond (s .begun) (Ok tt) (Err HeaderMisplaced)) → Stored 32 es entry (s .draft .entries) (d .entries) es′ r → d .rules ≡ s .draft .rules → Done s t rs rs es es′ content r
@@ -117,26 +121,28 @@ module _ {S : Type 0} (s : Scan) (d : Draft) (rs : List (Rule S)) (es : List Ent
       let e = room-is 32 (s .draft .entries) es (room .entries) in
       let kept : take (d .rules) rs ≡ take (s .draft .rules) rs = ap (λ k. take k rs) stay in
       let a : accepts (length rs) (length es) (progress s rs es) content ≡ cond (one-more 32 (length es) (take (s .draft .entries) es)) (Ok (record { begun = s .begun; ended = s .ended; policy = s .policy; rules = take (s .draft .rules) rs; entries = take (s .draft .entries) es ++ entry ∷ [] })) (Err Full) =
-        ap (accepts (length rs) (length es) (progress s rs es)) is ∙ cond-true _ _ _ b in
+      ap (accepts (length rs) (length es) (progress s rs es)) is ∙ cond-true _ _ _ b in
       ⊎-elim
       (λ fits.
-        let x = stored-more 32 es entry (s .draft .entries) (d .entries) es′ r st fits in
-        let v = a ∙ cond-true _ _ _ (e ∙ fits) in
-        let f = x .front in
-        record
-          { answered = x .granted ∙ sym (ap answer v)
-          ; taken = (let w : progress t rs es′ ≡ record { begun = s .begun; ended = s .ended; policy = s .policy; rules = take (s .draft .rules) rs; entries = take (s .draft .entries) es ++ entry ∷ [] } = cc in w) ∙ sym (ap (after (progress s rs es)) v)
-          ; room = record { rules = let h = room .rules in omega arith; entries = let l = x .long in let n = x .next in let k = x .within in omega arith }
-          ; rest = record { more-rules = omega arith; more-entries = let n = x .next in omega arith; rules = refl; entries = x .rest } })
+      let x = stored-more 32 es entry (s .draft .entries) (d .entries) es′ r st fits in
+      let v = a ∙ cond-true _ _ _ (e ∙ fits) in
+      let f = x .front in
+      record {
+        answered = x .granted ∙ sym (ap answer v);
+        taken = (let w : progress t rs es′ ≡ record { begun = s .begun; ended = s .ended; policy = s .policy; rules = take (s .draft .rules) rs; entries = take (s .draft .entries) es ++ entry ∷ [] } = cc in w) ∙ sym (ap (after (progress s rs es)) v);
+        room = record { rules = let h = room .rules in omega arith; entries = let l = x .long in let n = x .next in let k = x .within in omega arith };
+        rest = record { more-rules = omega arith; more-entries = let n = x .next in omega arith; rules = refl; entries = x .rest };
+      })
       (λ none.
-        let x = stored-same 32 es entry (s .draft .entries) (d .entries) es′ r st none in
-        let v = a ∙ cond-false _ _ _ (e ∙ none) in
-        let m = x .memory in
-        let n = x .still in
-        let same : take (d .entries) es′ ≡ take (s .draft .entries) es = cc in
-        record
-          { answered = x .refused ∙ sym (ap answer v)
-          ; taken = (let w : progress t rs es′ ≡ progress s rs es = cc in w) ∙ sym (ap (after (progress s rs es)) v)
-          ; room = record { rules = let h = room .rules in omega arith; entries = let h = room .entries in let l = ap length m in omega arith }
-          ; rest = record { more-rules = omega arith; more-entries = omega arith; rules = refl; entries = ap (drop (d .entries)) m } })
+      let x = stored-same 32 es entry (s .draft .entries) (d .entries) es′ r st none in
+      let v = a ∙ cond-false _ _ _ (e ∙ none) in
+      let m = x .memory in
+      let n = x .still in
+      let same : take (d .entries) es′ ≡ take (s .draft .entries) es = cc in
+      record {
+        answered = x .refused ∙ sym (ap answer v);
+        taken = (let w : progress t rs es′ ≡ progress s rs es = cc in w) ∙ sym (ap (after (progress s rs es)) v);
+        room = record { rules = let h = room .rules in omega arith; entries = let h = room .entries in let l = ap length m in omega arith };
+        rest = record { more-rules = omega arith; more-entries = omega arith; rules = refl; entries = ap (drop (d .entries)) m };
+      })
       (cases-bool (has-room 32 (s .draft .entries) es))

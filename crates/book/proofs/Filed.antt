@@ -48,11 +48,16 @@ module _ {S : Type 0} (reads : List ℕ → Reading S) (lawful : S → Bool) (by
       let te : take (s .draft .entries) es ≡ [] = ap (λ n. take n es) t in
       let start : nothing-yet ≡ progress s rs es = cc in
       record {
-        same = h; records = [];
+        same = h;
+        records = [];
         read = ap (λ n. take n bytes) k;
         makes = start;
         room = record { rules = omega arith; entries = omega arith };
-        rules = refl; entries = refl; rules-long = refl; entries-long = refl }
+        rules = refl;
+        entries = refl;
+        rules-long = refl;
+        entries-long = refl;
+      }
 
   further : {X : Type 0} (xs ys zs : List X) (n n′ : ℕ) → n ≤ n′ → drop n xs ≡ drop n ys → drop n′ zs ≡ drop n′ xs → drop n′ zs ≡ drop n′ ys
   further xs ys zs n n′ h e d =
@@ -68,7 +73,7 @@ module _ {S : Type 0} (reads : List ℕ → Reading S) (lawful : S → Bool) (by
 
   -- a record more
   pub goes-on : (d d′ : Reader) (s s′ : Scan) (rs₀ rs rs′ : List (Rule S)) (es₀ es es′ : List Entry) (u : Unit {0}) → s .ended ≡ false → length rs′ ≡ length rs → length es′ ≡ length es
-    → Standing d s rs₀ rs es₀ es → Stepped reads lawful d d′ s s′ rs rs′ es es′ (Ok u) → Standing d′ s′ rs₀ rs′ es₀ es′ × (d .place < d′ .place)
+      → Standing d s rs₀ rs es₀ es → Stepped reads lawful d d′ s s′ rs rs′ es es′ (Ok u) → Standing d′ s′ rs₀ rs′ es₀ es′ × (d .place < d′ .place)
   goes-on d d′ s s′ rs₀ rs rs′ es₀ es es′ u going lr le st sp =
       let rl = st .rules-long in
       let el = st .entries-long in
@@ -79,16 +84,20 @@ module _ {S : Type 0} (reads : List ℕ → Reading S) (lawful : S → Bool) (by
       let p : d′ .place ≡ d .place + length (front (left d)) = sp .place ∙ o .place in
       let l : left d ≡ drop (d .place) bytes = ap (drop (d .place)) (st .same) in
       let f : take (length (front (left d))) (drop (d .place) bytes) ≡ front (left d) = ap (take (length (front (left d)))) (sym l) ∙ o .again in
-      let j : whole (st .records) ++ front (left d) ≡ whole (st .records ++ front (left d) ∷ []) = joined-more (λ xs. xs) [] (st .records) (front (left d)) in
-      (record {
-        same = sp .bytes ∙ st .same;
-        records = st .records ++ front (left d) ∷ [];
-        read = ap (λ n. take n bytes) p ∙ (take-add (d .place) (length (front (left d))) bytes ∙ (ap (λ xs. xs ++ take (length (front (left d))) (drop (d .place) bytes)) (st .read) ∙ (ap (λ xs. whole (st .records) ++ xs) f ∙ j)));
-        makes = makes-more reads lawful (length rs₀) (length es₀) nothing-yet (progress s rs es) (progress s′ rs′ es′) (st .records) (front (left d)) (st .makes) (subst (λ (c : Progress S). Takes reads lawful (length rs₀) (length es₀) (progress s rs es) (front (left d)) c) (sym b) (o .takes));
-        room = sp .room;
-        rules = further rs rs₀ rs′ (s .draft .rules) (s′ .draft .rules) (sp .rest .more-rules) (st .rules) (sp .rest .rules);
-        entries = further es es₀ es′ (s .draft .entries) (s′ .draft .entries) (sp .rest .more-entries) (st .entries) (sp .rest .entries);
-        rules-long = lr ∙ rl; entries-long = le ∙ el }, omega (arith, o .some))
+      let j : whole (st .records) ++ front (left d) ≡ whole (st .records ++ front (left d) ∷ []) = joined-more (λ xs. xs) [] (st .records) (front (left d)) in (
+        record {
+          same = sp .bytes ∙ st .same;
+          records = st .records ++ front (left d) ∷ [];
+          read = ap (λ n. take n bytes) p ∙ (take-add (d .place) (length (front (left d))) bytes ∙ (ap (λ xs. xs ++ take (length (front (left d))) (drop (d .place) bytes)) (st .read) ∙ (ap (λ xs. whole (st .records) ++ xs) f ∙ j)));
+          makes = makes-more reads lawful (length rs₀) (length es₀) nothing-yet (progress s rs es) (progress s′ rs′ es′) (st .records) (front (left d)) (st .makes) (subst (λ (c : Progress S). Takes reads lawful (length rs₀) (length es₀) (progress s rs es) (front (left d)) c) (sym b) (o .takes));
+          room = sp .room;
+          rules = further rs rs₀ rs′ (s .draft .rules) (s′ .draft .rules) (sp .rest .more-rules) (st .rules) (sp .rest .rules);
+          entries = further es es₀ es′ (s .draft .entries) (s′ .draft .entries) (sp .rest .more-entries) (st .entries) (sp .rest .entries);
+          rules-long = lr ∙ rl;
+          entries-long = le ∙ el;
+        },
+        omega (arith, o .some),
+      )
 
   -- memory whose front is what is accepted
   kept : {X : Type 0} (xs ys zs : List X) (n : ℕ) → n ≤ length xs → take n xs ≡ zs → drop n xs ≡ drop n ys → xs ≡ zs ++ drop (length zs) ys
@@ -106,7 +115,8 @@ module _ {S : Type 0} (reads : List ℕ → Reading S) (lawful : S → Bool) (by
           book = progress s rs es;
           came = (record { records = st .records; whole = sym (take-all (d .place) bytes h) ∙ st .read; makes = st .makes; ended = e }, record { policy-is = op; rules-are = or ∙ sym a; entries-are = oe ∙ sym b });
           rules = kept rs rs₀ _ (s .draft .rules) (st .room .rules) refl (st .rules);
-          entries = kept es es₀ _ (s .draft .entries) (st .room .entries) refl (st .entries) }
+          entries = kept es es₀ _ (s .draft .entries) (st .room .entries) refl (st .entries);
+        }
 
     -- bytes are left after the end record
     pub trailing : d .place < length bytes → s .ended ≡ true → Run reads lawful bytes rs₀ es₀ rs es (Err (record { place = d .place; fault = Rulebook Trailing }))
@@ -116,13 +126,16 @@ module _ {S : Type 0} (reads : List ℕ → Reading S) (lawful : S → Bool) (by
         record {
           book = progress s rs es;
           came = record {
-            records = st .records; rest = drop (d .place) bytes;
+            records = st .records;
+            rest = drop (d .place) bytes;
             whole = sym (take-append-drop (d .place) bytes) ∙ ap (λ xs. xs ++ drop (d .place) bytes) (st .read);
             makes = st .makes;
             place = sym l ∙ ap length (st .read);
-            faulty = (e, omega arith) };
+            faulty = (e, omega arith);
+          };
           rules = kept rs rs₀ _ (s .draft .rules) (st .room .rules) refl (st .rules);
-          entries = kept es es₀ _ (s .draft .entries) (st .room .entries) refl (st .entries) }
+          entries = kept es es₀ _ (s .draft .entries) (st .room .entries) refl (st .entries);
+        }
 
   answer-err : {X E : Type 0} (x : Result X E) (f : E) → Err f ≡ answer x → x ≡ Err f
   answer-err (Ok c) f e = absurd (let z : _≡_ {A = ℕ} 0 1 = cc in let y : ⊥ = omega arith in y)
@@ -130,7 +143,7 @@ module _ {S : Type 0} (reads : List ℕ → Reading S) (lawful : S → Bool) (by
 
   -- a record is faulty
   pub refused : (d d′ : Reader) (s s′ : Scan) (rs₀ rs rs′ : List (Rule S)) (es₀ es es′ : List Entry) (f : FileFault) → d .place ≤ length bytes → s .ended ≡ false
-    → Standing d s rs₀ rs es₀ es → Stepped reads lawful d d′ s s′ rs rs′ es es′ (Err f) → Run reads lawful bytes rs₀ es₀ rs′ es′ (Err f)
+      → Standing d s rs₀ rs es₀ es → Stepped reads lawful d d′ s s′ rs rs′ es es′ (Err f) → Run reads lawful bytes rs₀ es₀ rs′ es′ (Err f)
   refused d d′ s s′ rs₀ rs rs′ es₀ es es′ f w going st sp =
       let x = answer-err (verdict reads lawful (length rs) (length es) (progress s rs es) (d .place) (left d)) f (sp .answered) in
       let v : verdict reads lawful (length rs₀) (length es₀) (progress s rs es) (d .place) (left d) ≡ Err f = at-lengths (length rs) (length rs₀) (length es) (length es₀) (λ m n. verdict reads lawful m n (progress s rs es) (d .place) (left d) ≡ Err f) (st .rules-long) (st .entries-long) x in
@@ -141,10 +154,13 @@ module _ {S : Type 0} (reads : List ℕ → Reading S) (lawful : S → Bool) (by
       record {
         book = progress s rs es;
         came = record {
-          records = st .records; rest = left d;
+          records = st .records;
+          rest = left d;
           whole = sym (take-append-drop (d .place) bytes) ∙ (ap (λ xs. xs ++ drop (d .place) bytes) (st .read) ∙ ap (λ xs. whole (st .records) ++ xs) (sym l));
           makes = st .makes;
           place = y .0 ∙ (sym k ∙ ap length (st .read));
-          faulty = y .1 };
+          faulty = y .1;
+        };
         rules = kept rs′ rs₀ _ (s′ .draft .rules) (sp .room .rules) (ap (λ c. c .rules) b) (further rs rs₀ rs′ (s .draft .rules) (s′ .draft .rules) (sp .rest .more-rules) (st .rules) (sp .rest .rules));
-        entries = kept es′ es₀ _ (s′ .draft .entries) (sp .room .entries) (ap (λ c. c .entries) b) (further es es₀ es′ (s .draft .entries) (s′ .draft .entries) (sp .rest .more-entries) (st .entries) (sp .rest .entries)) }
+        entries = kept es′ es₀ _ (s′ .draft .entries) (sp .room .entries) (ap (λ c. c .entries) b) (further es es₀ es′ (s .draft .entries) (s′ .draft .entries) (sp .rest .more-entries) (st .entries) (sp .rest .entries));
+      }

@@ -40,7 +40,6 @@ pub record Lies (p : ℕ) (bs : List ℕ) (q : Piece) : Type 0 where
   pub whole : 4 + little 2 bs ≤ length bs
   pub is : q ≡ piece-at p bs
 
-
 cut-lies : (p : ℕ) (bs : List ℕ) (q : Piece) → cut p bs ≡ Ok q → Lies p bs q
 cut-lies p bs q e =
     let a : 4 ≤ length bs = grind (arith, tells) in
@@ -102,7 +101,8 @@ module _ {S : Type 0} (reads : List ℕ → Reading S) (lawful : S → Bool) (m 
         place = u ∙ (let k = s .long in omega arith);
         some = omega arith;
         within = omega (arith, l .whole);
-        again = ap (λ k. take k bs) t }
+        again = ap (λ k. take k bs) t;
+      }
 
   pub makes-more : (b c d : Progress S) (xss : List (List ℕ)) (xs : List ℕ) → Makes reads lawful m n b xss c → Takes reads lawful m n c xs d → Makes reads lawful m n b (xss ++ xs ∷ []) d
   makes-more b c d [] xs h t = (d, subst (λ (z : Progress S). Takes reads lawful m n z xs d) (sym h) t, refl)

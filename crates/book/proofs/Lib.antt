@@ -8,3 +8,5 @@ pub mod Filed
 pub mod Telling
 pub mod Refusing
 pub mod Told
+pub mod Untold
+pub mod Exactly

@@ -50,7 +50,6 @@ room-none : {X : Type 0} (limit k : ℕ) (xs : List X) → No-room limit k xs �
 room-none limit k xs w = ⊎-elim (λ a. and-left (ltb (length xs) limit) (ltb (length xs) k) (le-ltb (length xs) limit a)) (λ b. and-right (ltb (length xs) limit) (ltb (length xs) k) (le-ltb (length xs) k b)) w
 
 module _ {S : Type 0} (m n : ℕ) where
-
   same-err : (e f : BookFault) → _≡_ {A = Result (Progress S) BookFault} (Err e) (Err f) → e ≡ f
   same-err e f p = cc
 
@@ -88,7 +87,6 @@ module _ {S : Type 0} (m n : ℕ) where
 
   -- after it
   module _ (c : Progress S) (begun : c .begun ≡ true) where
-
     rule-answer : (r : Rule S) (f : BookFault) → accepts m n c (NewRule r) ≡ Err f → (one-more 64 m (c .rules) ≡ false) × (Full ≡ f)
     rule-answer r f e = only-err (one-more 64 m (c .rules)) _ Full f (sym (cond-true (c .begun) _ _ begun) ∙ e)
 
@@ -124,6 +122,6 @@ module _ {S : Type 0} (m n : ℕ) where
 
     pub full-later : (x : Content S) → Overfull x → accepts m n c x ≡ Err Full
     full-later x w = ⊎-elim
-      (λ a. ap (accepts m n c) (a .1) ∙ cond-true (c .begun) _ _ begun ∙ cond-false (one-more 64 m (c .rules)) _ _ (room-none 64 m (c .rules) (a .2)))
-      (λ a. ap (accepts m n c) (a .1) ∙ cond-true (c .begun) _ _ begun ∙ cond-false (one-more 32 n (c .entries)) _ _ (room-none 32 n (c .entries) (a .2)))
-      w
+        (λ a. ap (accepts m n c) (a .1) ∙ cond-true (c .begun) _ _ begun ∙ cond-false (one-more 64 m (c .rules)) _ _ (room-none 64 m (c .rules) (a .2)))
+        (λ a. ap (accepts m n c) (a .1) ∙ cond-true (c .begun) _ _ begun ∙ cond-false (one-more 32 n (c .entries)) _ _ (room-none 32 n (c .entries) (a .2)))
+        w

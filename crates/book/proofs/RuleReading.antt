@@ -31,14 +31,14 @@ module _ {S : Type 0} (reads : List ℕ → Reading S) (lawful : S → Bool) (bs
 
   sets-read : rule-content reads lawful bs ≡ rule-from lawful g d (length rest) (reads rest)
   sets-read =
-    let e : mid ≡ drop 8 bs = a .2 in
-    let f : rest ≡ drop 16 bs = b .2 ∙ ap (drop 8) e ∙ drop-drop 8 8 bs in
-    let n : length mid ≡ length bs - 8 = ap length e ∙ length-drop 8 bs in
-    let m : length rest ≡ length bs - 16 = ap length f ∙ length-drop 16 bs in
-    let x : d ≡ numbered (little 8 (drop 8 bs)) = ap numbered (b .1) ∙ ap (λ zs. numbered (little 8 zs)) e in
-    let y : g ≡ numbered (little 8 bs) = ap numbered (a .1) in
-    let z = cond-true _ (rule-from lawful (numbered (little 8 bs)) (numbered (little 8 (drop 8 bs))) (length bs - 16) (reads (drop 16 bs))) (Err WrongLength) (le-leb 16 (length bs) (omega (arith, a .0, b .0))) in
-    z ∙ sym (ap (λ s. rule-from lawful s d (length rest) (reads rest)) y ∙ ap (λ s. rule-from lawful (numbered (little 8 bs)) s (length rest) (reads rest)) x
+      let e : mid ≡ drop 8 bs = a .2 in
+      let f : rest ≡ drop 16 bs = b .2 ∙ ap (drop 8) e ∙ drop-drop 8 8 bs in
+      let n : length mid ≡ length bs - 8 = ap length e ∙ length-drop 8 bs in
+      let m : length rest ≡ length bs - 16 = ap length f ∙ length-drop 16 bs in
+      let x : d ≡ numbered (little 8 (drop 8 bs)) = ap numbered (b .1) ∙ ap (λ zs. numbered (little 8 zs)) e in
+      let y : g ≡ numbered (little 8 bs) = ap numbered (a .1) in
+      let z = cond-true _ (rule-from lawful (numbered (little 8 bs)) (numbered (little 8 (drop 8 bs))) (length bs - 16) (reads (drop 16 bs))) (Err WrongLength) (le-leb 16 (length bs) (omega (arith, a .0, b .0))) in
+      z ∙ sym (ap (λ s. rule-from lawful s d (length rest) (reads rest)) y ∙ ap (λ s. rule-from lawful (numbered (little 8 bs)) s (length rest) (reads rest)) x
       ∙ ap (λ k. rule-from lawful (numbered (little 8 bs)) (numbered (little 8 (drop 8 bs))) k (reads rest)) m
       ∙ ap (λ zs. rule-from lawful (numbered (little 8 bs)) (numbered (little 8 (drop 8 bs))) (length bs - 16) (reads zs)) f)
 
@@ -58,9 +58,9 @@ module _ {S : Type 0} (reads : List ℕ → Reading S) (lawful : S → Bool) (bs
 
       judged : n ≡ length rest → rule-content reads lawful bs ≡ cond (good-rule lawful made) (Ok made) (Err BadField)
       judged k =
-        let z = sets-read in
-        z ∙ ap (rule-from lawful g d (length rest)) (sym h) ∙ cond-true _ _ _ (eq-eqb n (length rest) k)
-        ∙ ap (λ (r : Rule S). cond (good-rule lawful r) (Ok r) (Err BadField)) (sym same)
+          let z = sets-read in
+          z ∙ ap (rule-from lawful g d (length rest)) (sym h) ∙ cond-true _ _ _ (eq-eqb n (length rest) k)
+          ∙ ap (λ (r : Rule S). cond (good-rule lawful r) (Ok r) (Err BadField)) (sym same)
 
       pub rule-good : n ≡ length rest → true ≡ good-rule lawful made → Ok made ≡ rule-content reads lawful bs
       rule-good k q = sym (judged k ∙ cond-true _ _ _ (sym q))

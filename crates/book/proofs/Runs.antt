@@ -85,7 +85,6 @@ pub record Counts {S : Type 0} (o : Opened) (b : Progress S) : Type 0 where
   pub entries-are : o .book .entries ≡ length (b .entries)
 
 module _ {S : Type 0} (reads : List ℕ → Reading S) (lawful : S → Bool) (bytes : List ℕ) (rs : List (Rule S)) (es : List Entry) where
-
   abbrev pub Came : Progress S → Result Opened FileFault → Type 0
   Came b (Ok o) = Made-up reads lawful (length rs) (length es) bytes b × Counts o b
   Came b (Err f) = Stopped reads lawful (length rs) (length es) bytes b f

@@ -51,9 +51,13 @@ module _ {S : Type 0} (reads : List ℕ → Reading S) (lawful : S → Bool) (d 
 
   stepped : (r : Result (Unit {0}) FileFault) → r ≡ answer (by-book reads lawful (length rs) (length es) (progress s rs es) (q .place) (accepts (length rs) (length es) (progress s rs es) i)) → Stepped reads lawful d d′ s s′ rs rs′ es es′ r
   stepped r h = record {
-      answered = h ∙ ap answer (sym judged);
-      book = hb ∙ (sym (after-same reads lawful (length rs) (length es) (progress s rs es) (q .place) (accepts (length rs) (length es) (progress s rs es) i)) ∙ ap (after (progress s rs es)) (sym judged));
-      room = room; rest = rest; place = hp; bytes = hs }
+    answered = h ∙ ap answer (sym judged);
+    book = hb ∙ (sym (after-same reads lawful (length rs) (length es) (progress s rs es) (q .place) (accepts (length rs) (length es) (progress s rs es) i)) ∙ ap (after (progress s rs es)) (sym judged));
+    room = room;
+    rest = rest;
+    place = hp;
+    bytes = hs;
+  }
 
   pub step-granted : (u : Unit {0}) → Ok u ≡ placed-at (q .place) a → Stepped reads lawful d d′ s s′ rs rs′ es es′ (Ok tt)
   step-granted u h = stepped (Ok tt) (granted reads lawful (length rs) (length es) (progress s rs es) (q .place) (accepts (length rs) (length es) (progress s rs es) i) a u ha h)

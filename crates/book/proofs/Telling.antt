@@ -61,7 +61,6 @@ entries-end (NewEntry e ∷ cs) = ap (λ es. e ∷ es) (entries-end cs)
 entries-end (End ∷ cs) = entries-end cs
 
 module _ {S : Type 0} (reads : List ℕ → Reading S) (lawful : S → Bool) (m n : ℕ) where
-
   pub record Fits (b : Progress S) : Type 0 where
     pub rules-few : length (b .rules) ≤ 64
     pub rules-fit : length (b .rules) ≤ m
@@ -81,39 +80,41 @@ module _ {S : Type 0} (reads : List ℕ → Reading S) (lawful : S → Bool) (m 
 
   -- one plain content more in front
   before : (b d c : Progress S) (xs : List ℕ) (xss : List (List ℕ)) (x : Content S) → plain x ≡ true → Says reads lawful m n xs (Ok x) → d .policy ≡ b .policy
-    → ((cs : List (Content S)) → d .rules ++ rules-of cs ≡ b .rules ++ rules-of (x ∷ cs)) → ((cs : List (Content S)) → d .entries ++ entries-of cs ≡ b .entries ++ entries-of (x ∷ cs))
-    → Went d c xss → Went b c (xs ∷ xss)
-  before b d c xs xss x p says policy rs es w = record
-    { inner = x ∷ w .inner
-    ; all-plain = (p, w .all-plain)
-    ; begun-is = w .begun-is
-    ; policy-is = w .policy-is ∙ policy
-    ; rules-are = w .rules-are ∙ rs (w .inner)
-    ; entries-are = w .entries-are ∙ es (w .inner)
-    ; fits = w .fits
-    ; how = ⊎-elim (λ a. inl (a .0, (says, a .1))) (λ a. inr (a .0, (says, a .1))) (w .how) }
+      → ((cs : List (Content S)) → d .rules ++ rules-of cs ≡ b .rules ++ rules-of (x ∷ cs)) → ((cs : List (Content S)) → d .entries ++ entries-of cs ≡ b .entries ++ entries-of (x ∷ cs))
+      → Went d c xss → Went b c (xs ∷ xss)
+  before b d c xs xss x p says policy rs es w = record {
+    inner = x ∷ w .inner;
+    all-plain = (p, w .all-plain);
+    begun-is = w .begun-is;
+    policy-is = w .policy-is ∙ policy;
+    rules-are = w .rules-are ∙ rs (w .inner);
+    entries-are = w .entries-are ∙ es (w .inner);
+    fits = w .fits;
+    how = ⊎-elim (λ a. inl (a .0, (says, a .1))) (λ a. inr (a .0, (says, a .1))) (w .how);
+  }
 
   after-end : (d c : Progress S) (xss : List (List ℕ)) → d .ended ≡ true → Makes reads lawful m n d xss c → (xss ≡ []) × (d ≡ c)
   after-end d c [] e mk = (refl, mk)
   after-end d c (xs ∷ xss) e mk = absurd (both-ways (d .ended) (mk .1 .going) e)
 
   pub went : (xss : List (List ℕ)) (b c : Progress S) → b .begun ≡ true → b .ended ≡ false → Fits b → Makes reads lawful m n b xss c → Went b c xss
-  went [] b c bg en ft mk = record
-    { inner = []
-    ; all-plain = tt
-    ; begun-is = ap (λ (z : Progress S). z .begun) (sym mk) ∙ bg
-    ; policy-is = ap (λ (z : Progress S). z .policy) (sym mk)
-    ; rules-are = ap (λ (z : Progress S). z .rules) (sym mk) ∙ sym (append-nil (b .rules))
-    ; entries-are = ap (λ (z : Progress S). z .entries) (sym mk) ∙ sym (append-nil (b .entries))
-    ; fits = subst Fits mk ft
-    ; how = inl (ap (λ (z : Progress S). z .ended) (sym mk) ∙ en, tt) }
+  went [] b c bg en ft mk = record {
+    inner = [];
+    all-plain = tt;
+    begun-is = ap (λ (z : Progress S). z .begun) (sym mk) ∙ bg;
+    policy-is = ap (λ (z : Progress S). z .policy) (sym mk);
+    rules-are = ap (λ (z : Progress S). z .rules) (sym mk) ∙ sym (append-nil (b .rules));
+    entries-are = ap (λ (z : Progress S). z .entries) (sym mk) ∙ sym (append-nil (b .entries));
+    fits = subst Fits mk ft;
+    how = inl (ap (λ (z : Progress S). z .ended) (sym mk) ∙ en, tt);
+  }
   went (xs ∷ xss) b c bg en ft mk = by (λ d. went xss d c) (mk .1 .item) (mk .1 .says) (mk .1 .taken)
     where
       by : ((d : Progress S) → d .begun ≡ true → d .ended ≡ false → Fits d → Makes reads lawful m n d xss c → Went d c xss) → (x : Content S) → Says reads lawful m n xs (Ok x) → accepts m n b x ≡ Ok (mk .0) → Went b c (xs ∷ xss)
       by rec Filler says tk =
           let e : b ≡ mk .0 = only-ok (b .begun) b (mk .0) HeaderMisplaced tk .1 in
           before b b c xs xss Filler refl says refl (λ cs. refl) (λ cs. refl)
-            (rec b bg en ft (subst (λ (z : Progress S). Makes reads lawful m n z xss c) (sym e) (mk .2)))
+          (rec b bg en ft (subst (λ (z : Progress S). Makes reads lawful m n z xss c) (sym e) (mk .2)))
       by rec (Heading h) says tk = absurd (err-ok (mk .0) HeaderMisplaced (sym (cond-true (b .begun) _ _ bg) ∙ tk))
       by rec (NewRule r) says tk =
           let more : Progress S = record { begun = b .begun; ended = b .ended; policy = b .policy; rules = b .rules ++ r ∷ []; entries = b .entries } in
@@ -123,8 +124,8 @@ module _ {S : Type 0} (reads : List ℕ → Reading S) (lawful : S → Bool) (m 
           let lm = ltb-true (length (b .rules)) m (q .1) in
           let l : length (b .rules ++ r ∷ []) ≡ length (b .rules) + 1 = length-append (b .rules) (r ∷ []) in
           before b more c xs xss (NewRule r) refl says refl (λ cs. append-assoc (b .rules) (r ∷ []) (rules-of cs)) (λ cs. refl)
-            (rec more bg en (record { rules-few = omega arith; rules-fit = omega arith; entries-few = ft .entries-few; entries-fit = ft .entries-fit })
-              (subst (λ (z : Progress S). Makes reads lawful m n z xss c) (sym (p .1)) (mk .2)))
+          (rec more bg en (record { rules-few = omega arith; rules-fit = omega arith; entries-few = ft .entries-few; entries-fit = ft .entries-fit })
+          (subst (λ (z : Progress S). Makes reads lawful m n z xss c) (sym (p .1)) (mk .2)))
       by rec (NewEntry x) says tk =
           let more : Progress S = record { begun = b .begun; ended = b .ended; policy = b .policy; rules = b .rules; entries = b .entries ++ x ∷ [] } in
           let p = only-ok (one-more 32 n (b .entries)) more (mk .0) Full (sym (cond-true (b .begun) _ _ bg) ∙ tk) in
@@ -133,22 +134,23 @@ module _ {S : Type 0} (reads : List ℕ → Reading S) (lawful : S → Bool) (m 
           let ln = ltb-true (length (b .entries)) n (q .1) in
           let l : length (b .entries ++ x ∷ []) ≡ length (b .entries) + 1 = length-append (b .entries) (x ∷ []) in
           before b more c xs xss (NewEntry x) refl says refl (λ cs. refl) (λ cs. append-assoc (b .entries) (x ∷ []) (entries-of cs))
-            (rec more bg en (record { rules-few = ft .rules-few; rules-fit = ft .rules-fit; entries-few = omega arith; entries-fit = omega arith })
-              (subst (λ (z : Progress S). Makes reads lawful m n z xss c) (sym (p .1)) (mk .2)))
+          (rec more bg en (record { rules-few = ft .rules-few; rules-fit = ft .rules-fit; entries-few = omega arith; entries-fit = omega arith })
+          (subst (λ (z : Progress S). Makes reads lawful m n z xss c) (sym (p .1)) (mk .2)))
       by rec End says tk =
           let done : Progress S = record { begun = b .begun; ended = true; policy = b .policy; rules = b .rules; entries = b .entries } in
           let e : done ≡ mk .0 = only-ok (b .begun) done (mk .0) HeaderMisplaced tk .1 in
           let a = after-end done c xss refl (subst (λ (z : Progress S). Makes reads lawful m n z xss c) (sym e) (mk .2)) in
           let dc : done ≡ c = a .1 in
-          record
-            { inner = []
-            ; all-plain = tt
-            ; begun-is = ap (λ (z : Progress S). z .begun) (sym dc) ∙ bg
-            ; policy-is = ap (λ (z : Progress S). z .policy) (sym dc)
-            ; rules-are = ap (λ (z : Progress S). z .rules) (sym dc) ∙ sym (append-nil (b .rules))
-            ; entries-are = ap (λ (z : Progress S). z .entries) (sym dc) ∙ sym (append-nil (b .entries))
-            ; fits = subst Fits dc (record { rules-few = ft .rules-few; rules-fit = ft .rules-fit; entries-few = ft .entries-few; entries-fit = ft .entries-fit })
-            ; how = inr (ap (λ (z : Progress S). z .ended) (sym dc), subst (λ yss. Each-says reads lawful m n (xs ∷ yss) (End ∷ [])) (sym (a .0)) (says, tt)) }
+          record {
+            inner = [];
+            all-plain = tt;
+            begun-is = ap (λ (z : Progress S). z .begun) (sym dc) ∙ bg;
+            policy-is = ap (λ (z : Progress S). z .policy) (sym dc);
+            rules-are = ap (λ (z : Progress S). z .rules) (sym dc) ∙ sym (append-nil (b .rules));
+            entries-are = ap (λ (z : Progress S). z .entries) (sym dc) ∙ sym (append-nil (b .entries));
+            fits = subst Fits dc (record { rules-few = ft .rules-few; rules-fit = ft .rules-fit; entries-few = ft .entries-few; entries-fit = ft .entries-fit });
+            how = inr (ap (λ (z : Progress S). z .ended) (sym dc), subst (λ yss. Each-says reads lawful m n (xs ∷ yss) (End ∷ [])) (sym (a .0)) (says, tt));
+          }
 
   abbrev pub headed : Header → Progress S
   headed h = record { begun = true; ended = false; policy = h .policy; rules = []; entries = [] }
@@ -171,15 +173,16 @@ module _ {S : Type 0} (reads : List ℕ → Reading S) (lawful : S → Bool) (m 
       by Filler says tk = absurd (err-ok (mk .0) HeaderMisplaced tk)
       by (Heading h) says tk =
           let p = only-ok (good-header h) (headed h) (mk .0) HeaderUnknown tk in
-          record
-            { header = h
-            ; first = xs
-            ; others = xss
-            ; records-are = refl
-            ; says-header = says
-            ; header-good = p .0
-            ; went-on = went xss (headed h) c refl refl (record { rules-few = omega arith; rules-fit = omega arith; entries-few = omega arith; entries-fit = omega arith })
-                (subst (λ (z : Progress S). Makes reads lawful m n z xss c) (sym (p .1)) (mk .2)) }
+          record {
+            header = h;
+            first = xs;
+            others = xss;
+            records-are = refl;
+            says-header = says;
+            header-good = p .0;
+            went-on = went xss (headed h) c refl refl (record { rules-few = omega arith; rules-fit = omega arith; entries-few = omega arith; entries-fit = omega arith })
+                (subst (λ (z : Progress S). Makes reads lawful m n z xss c) (sym (p .1)) (mk .2));
+          }
       by (NewRule r) says tk = absurd (err-ok (mk .0) HeaderMisplaced tk)
       by (NewEntry x) says tk = absurd (err-ok (mk .0) HeaderMisplaced tk)
       by End says tk = absurd (err-ok (mk .0) HeaderMisplaced tk)

@@ -29,7 +29,6 @@ use Rattle.book.proofs.Telling.{Went, Started, started, headed, rules-end, ent
 use Rattle.book.proofs.Refusing.{first-misplaced, first-unknown, first-full, later-misplaced, later-unknown, later-full}
 
 module _ {S : Type 0} (reads : List ℕ → Reading S) (lawful : S → Bool) (m n : ℕ) where
-
   -- a record that the progress c rejects, with the reason in words
   rejected : (c : Progress S) (bs : List ℕ) (f : BookFault) (Q : Content S → Type 0) → ((x : Content S) → accepts m n c x ≡ Err f → Q x) → Rejects reads lawful m n c bs f → Begins-with bs (Saying reads lawful m n Q)
   rejected c bs f Q why r = record { xs = r .xs; more = r .more; front = r .front; first = (r .item, r .says, why (r .item) (r .refused)) }
@@ -52,13 +51,14 @@ module _ {S : Type 0} (reads : List ℕ → Reading S) (lawful : S → Bool) (m 
     going bg en rs es bs (Record e) k = (body, record { xs = k .1 .xs; more = k .1 .more; front = k .1 .front; first = k .1 .says })
     going bg en rs es bs (Rulebook HeaderMisplaced) k = (body, rejected c bs HeaderMisplaced _ (later-misplaced m n c bg) (k .1))
     going bg en rs es bs (Rulebook HeaderUnknown) k = absurd (later-unknown m n c bg (k .1 .item) (k .1 .refused))
-    going bg en rs es bs (Rulebook Full) k =
-        ( body
-        , (λ e. let z : _≡_ {A = ℕ} 0 1 = cc in omega arith)
-        , rejected c bs Full _ (λ x e. ⊎-elim
-            (λ a. inl (a .0, a .1, subst (λ zs. (64 ≤ length zs) ⊎ (m ≤ length zs)) rs (a .2)))
-            (λ a. inr (a .0, a .1, subst (λ zs. (32 ≤ length zs) ⊎ (n ≤ length zs)) es (a .2)))
-            (later-full m n c bg x e)) (k .1) )
+    going bg en rs es bs (Rulebook Full) k = (
+      body,
+      (λ e. let z : _≡_ {A = ℕ} 0 1 = cc in omega arith),
+      rejected c bs Full _ (λ x e. ⊎-elim
+          (λ a. inl (a .0, a .1, subst (λ zs. (64 ≤ length zs) ⊎ (m ≤ length zs)) rs (a .2)))
+          (λ a. inr (a .0, a .1, subst (λ zs. (32 ≤ length zs) ⊎ (n ≤ length zs)) es (a .2)))
+          (later-full m n c bg x e)) (k .1),
+    )
     going bg en rs es bs (Rulebook Trailing) k = absurd (both-ways (c .ended) en (k .0))
 
     -- the end was read
@@ -77,13 +77,14 @@ module _ {S : Type 0} (reads : List ℕ → Reading S) (lawful : S → Bool) (m 
       let rl : length (c .rules) ≡ length (rules-of (w .inner)) = ap length (w .rules-are) in
       let el : length (c .entries) ≡ length (entries-of (w .inner)) = ap length (w .entries-are) in
       let f = w .fits in
-      record
-        { header-good = st .header-good
-        ; all-plain = w .all-plain
-        ; rules-few = omega (arith, f .rules-few)
-        ; rules-fit = omega (arith, f .rules-fit)
-        ; entries-few = omega (arith, f .entries-few)
-        ; entries-fit = omega (arith, f .entries-fit) }
+      record {
+        header-good = st .header-good;
+        all-plain = w .all-plain;
+        rules-few = omega (arith, f .rules-few);
+        rules-fit = omega (arith, f .rules-fit);
+        entries-few = omega (arith, f .entries-few);
+        entries-fit = omega (arith, f .entries-fit);
+      }
 
   -- what the records of a run have said
   pub record Spoken (xss : List (List ℕ)) (c : Progress S) : Type 0 where
@@ -96,36 +97,38 @@ module _ {S : Type 0} (reads : List ℕ → Reading S) (lawful : S → Bool) (m 
 
   pub spoken : (xss : List (List ℕ)) (c : Progress S) → Makes reads lawful m n nothing-yet xss c → Spoken xss c
   spoken xss c mk = ⊎-elim
-    (λ a. record
-      { said = []
-      ; say = subst (λ zss. Each-says reads lawful m n zss []) (sym (a .0)) tt
-      ; rules-are = ap (λ (z : Progress S). z .rules) (sym (a .1))
-      ; entries-are = ap (λ (z : Progress S). z .entries) (sym (a .1))
-      ; stops = λ bs f s. fresh bs f (subst (λ (z : Progress S). Stops reads lawful m n z bs f) (sym (a .1)) s)
-      ; ends = λ e. absurd (both-ways false refl (ap (λ (z : Progress S). z .ended) (a .1) ∙ e)) })
-    (λ st.
+      (λ a. record {
+        said = [];
+        say = subst (λ zss. Each-says reads lawful m n zss []) (sym (a .0)) tt;
+        rules-are = ap (λ (z : Progress S). z .rules) (sym (a .1));
+        entries-are = ap (λ (z : Progress S). z .entries) (sym (a .1));
+        stops = λ bs f s. fresh bs f (subst (λ (z : Progress S). Stops reads lawful m n z bs f) (sym (a .1)) s);
+        ends = λ e. absurd (both-ways false refl (ap (λ (z : Progress S). z .ended) (a .1) ∙ e));
+      })
+      (λ st.
       let w = st .went-on in
       let body = body-of xss c st in
       ⊎-elim
-      (λ a. record
-        { said = Heading (st .header) ∷ w .inner
-        ; say = subst (λ zss. Each-says reads lawful m n zss (Heading (st .header) ∷ w .inner)) (sym (st .records-are)) (st .says-header, a .1)
-        ; rules-are = w .rules-are
-        ; entries-are = w .entries-are
-        ; stops = going (st .header) (w .inner) c body (w .begun-is) (a .0) (w .rules-are) (w .entries-are)
-        ; ends = λ e. absurd (both-ways (c .ended) (a .0) e) })
-      (λ a. record
-        { said = Heading (st .header) ∷ (w .inner ++ End ∷ [])
-        ; say = subst (λ zss. Each-says reads lawful m n zss (Heading (st .header) ∷ (w .inner ++ End ∷ []))) (sym (st .records-are)) (st .says-header, a .1)
-        ; rules-are = w .rules-are ∙ sym (rules-end (w .inner))
-        ; entries-are = w .entries-are ∙ sym (entries-end (w .inner))
-        ; stops = done (st .header) (w .inner) c body (a .0)
-        ; ends = λ e. (st .header, w .inner, refl, body, w .policy-is) })
+      (λ a. record {
+        said = Heading (st .header) ∷ w .inner;
+        say = subst (λ zss. Each-says reads lawful m n zss (Heading (st .header) ∷ w .inner)) (sym (st .records-are)) (st .says-header, a .1);
+        rules-are = w .rules-are;
+        entries-are = w .entries-are;
+        stops = going (st .header) (w .inner) c body (w .begun-is) (a .0) (w .rules-are) (w .entries-are);
+        ends = λ e. absurd (both-ways (c .ended) (a .0) e);
+      })
+      (λ a. record {
+        said = Heading (st .header) ∷ (w .inner ++ End ∷ []);
+        say = subst (λ zss. Each-says reads lawful m n zss (Heading (st .header) ∷ (w .inner ++ End ∷ []))) (sym (st .records-are)) (st .says-header, a .1);
+        rules-are = w .rules-are ∙ sym (rules-end (w .inner));
+        entries-are = w .entries-are ∙ sym (entries-end (w .inner));
+        stops = done (st .header) (w .inner) c body (a .0);
+        ends = λ e. (st .header, w .inner, refl, body, w .policy-is);
+      })
       (w .how))
-    (started reads lawful m n xss c mk)
+      (started reads lawful m n xss c mk)
 
 module _ {S : Type 0} (reads : List ℕ → Reading S) (lawful : S → Bool) (bytes : List ℕ) (rs : List (Rule S)) (es : List Entry) where
-
   front-kept : {X : Type 0} (xs ys zs ws : List X) → ys ≡ ws → zs ≡ ys ++ drop (length ys) xs → zs ≡ ws ++ drop (length ws) xs
   front-kept xs ys zs ws e h = h ∙ ap (λ (v : List _). v ++ drop (length v) xs) e
 
@@ -135,18 +138,23 @@ module _ {S : Type 0} (reads : List ℕ → Reading S) (lawful : S → Bool) (by
       let cn = run .came .1 in
       let sp = spoken reads lawful (length rs) (length es) (mu .records) (run .book) (mu .makes) in
       let en = sp .ends (mu .ended) in
-      record
-        { said = sp .said
-        ; answer = ( en .0, en .1
-                   , record { records = mu .records; in-a-row = mu .whole; say = sp .say; whole = record { contents = en .2; body = en .3 } }
-                   , record { policy-is = cn .policy-is ∙ en .4; rules-are = cn .rules-are ∙ ap length (sp .rules-are); entries-are = cn .entries-are ∙ ap length (sp .entries-are) } )
-        ; rules-after = front-kept rs (run .book .rules) rs′ (rules-of (sp .said)) (sp .rules-are) (run .rules)
-        ; entries-after = front-kept es (run .book .entries) es′ (entries-of (sp .said)) (sp .entries-are) (run .entries) }
+      record {
+        said = sp .said;
+        answer = (
+          en .0,
+          en .1,
+          record { records = mu .records; in-a-row = mu .whole; say = sp .say; whole = record { contents = en .2; body = en .3 } },
+          record { policy-is = cn .policy-is ∙ en .4; rules-are = cn .rules-are ∙ ap length (sp .rules-are); entries-are = cn .entries-are ∙ ap length (sp .entries-are) },
+        );
+        rules-after = front-kept rs (run .book .rules) rs′ (rules-of (sp .said)) (sp .rules-are) (run .rules);
+        entries-after = front-kept es (run .book .entries) es′ (entries-of (sp .said)) (sp .entries-are) (run .entries);
+      }
   told rs′ es′ (Err f) run =
       let st = run .came in
       let sp = spoken reads lawful (length rs) (length es) (st .records) (run .book) (st .makes) in
-      record
-        { said = sp .said
-        ; answer = record { records = st .records; rest = st .rest; in-a-row = st .whole; say = sp .say; place-is = st .place; faulty = sp .stops (st .rest) (f .fault) (st .faulty) }
-        ; rules-after = front-kept rs (run .book .rules) rs′ (rules-of (sp .said)) (sp .rules-are) (run .rules)
-        ; entries-after = front-kept es (run .book .entries) es′ (entries-of (sp .said)) (sp .entries-are) (run .entries) }
+      record {
+        said = sp .said;
+        answer = record { records = st .records; rest = st .rest; in-a-row = st .whole; say = sp .say; place-is = st .place; faulty = sp .stops (st .rest) (f .fault) (st .faulty) };
+        rules-after = front-kept rs (run .book .rules) rs′ (rules-of (sp .said)) (sp .rules-are) (run .rules);
+        entries-after = front-kept es (run .book .entries) es′ (entries-of (sp .said)) (sp .entries-are) (run .entries);
+      }

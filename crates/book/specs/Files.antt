@@ -81,7 +81,6 @@ pub record Begins-with (bs : List ℕ) (P : List ℕ → Type 0) : Type 0 where
 
 -- over how tests are read and which are lawful, with memory for m rules and n entries
 module _ {S : Type 0} (reads : List ℕ → Reading S) (lawful : S → Bool) (m n : ℕ) where
-
   pub record Says (xs : List ℕ) (c : Result (Content S) RecordFault) : Type 0 where
     pub kind : ℕ
     pub body : List ℕ
@@ -163,7 +162,6 @@ pub record Opens {S : Type 0} (o : Opened) (h : Header) (cs : List (Content S)) 
   pub entries-are : o .book .entries ≡ length (entries-of cs)
 
 module _ {S : Type 0} (reads : List ℕ → Reading S) (lawful : S → Bool) (bytes : List ℕ) (rs : List (Rule S)) (es : List Entry) where
-
   abbrev pub Answer : List (Content S) → Result Opened FileFault → Type 0
   Answer cs (Ok o) = (h : Header) × (inner : List (Content S)) × Accepted reads lawful (length rs) (length es) bytes h inner cs × Opens o h cs
   Answer cs (Err f) = Refused reads lawful (length rs) (length es) bytes cs f

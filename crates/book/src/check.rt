@@ -6,6 +6,7 @@ use rules::Rule;
 
 // The last minute of the clock, and the longest time that an entry may be live.
 const LAST_MINUTE: u32 = 4_000_000_000;
+
 const LONGEST: u32 = 100_000_000;
 
 pub(crate) fn is_good_rule<K: Kind>(rule: Rule<K::Test>) -> bool

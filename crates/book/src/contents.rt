@@ -45,7 +45,10 @@ fn read_header(body: &[u8]) -> Result<Header, RecordFault>
     let [e0, e1, p0, p1] = body else {
         return Err(RecordFault::WrongLength);
     };
-    Ok(Header { edition: u16::from_le_bytes([*e0, *e1]), policy: u16::from_le_bytes([*p0, *p1]) })
+    Ok(Header {
+        edition: u16::from_le_bytes([*e0, *e1]),
+        policy: u16::from_le_bytes([*p0, *p1]),
+    })
 }
 
 fn read_entry(body: &[u8]) -> Result<Entry, RecordFault>
@@ -56,8 +59,17 @@ fn read_entry(body: &[u8]) -> Result<Entry, RecordFault>
     };
     let start = u32::from_le_bytes([*s0, *s1, *s2, *s3]);
     let duration = u32::from_le_bytes([*d0, *d1, *d2, *d3]);
-    let entry = Entry { first: *first, second: *second, start, duration };
-    if is_good_entry(entry) { Ok(entry) } else { Err(RecordFault::BadField) }
+    let entry = Entry {
+        first: *first,
+        second: *second,
+        start,
+        duration,
+    };
+    if is_good_entry(entry) {
+        Ok(entry)
+    } else {
+        Err(RecordFault::BadField)
+    }
 }
 
 fn read_end(body: &[u8]) -> Result<(), RecordFault>
@@ -88,8 +100,16 @@ fn read_rule<K: FileKind>(body: &[u8]) -> Result<Rule<K::Test>, RecordFault>
     if used != rest.len() {
         return Err(RecordFault::WrongLength);
     }
-    let rule = Rule { test, grants: Set::from_le_bytes(grants), denies: Set::from_le_bytes(denies) };
-    if is_good_rule::<K>(rule) { Ok(rule) } else { Err(RecordFault::BadField) }
+    let rule = Rule {
+        test,
+        grants: Set::from_le_bytes(grants),
+        denies: Set::from_le_bytes(denies),
+    };
+    if is_good_rule::<K>(rule) {
+        Ok(rule)
+    } else {
+        Err(RecordFault::BadField)
+    }
 }
 
 // What the record says, by its kind and body.

@@ -71,7 +71,10 @@ pub impl From<At<FrameFault>> for FileFault as FileFromFrame {
     ghost converts = { λ e r. r ≡ record { place = e .place; fault = Frame (e .fault) } };
 
     fn from(at: At<FrameFault>) -> FileFault {
-        FileFault { place: at.place, fault: Fault::Frame(at.fault) }
+        FileFault {
+            place: at.place,
+            fault: Fault::Frame(at.fault),
+        }
     }
 }
 
@@ -79,7 +82,10 @@ pub impl From<At<RecordFault>> for FileFault as FileFromRecord {
     ghost converts = { λ e r. r ≡ record { place = e .place; fault = Record (e .fault) } };
 
     fn from(at: At<RecordFault>) -> FileFault {
-        FileFault { place: at.place, fault: Fault::Record(at.fault) }
+        FileFault {
+            place: at.place,
+            fault: Fault::Record(at.fault),
+        }
     }
 }
 
@@ -87,7 +93,10 @@ pub impl From<At<BookFault>> for FileFault as FileFromBook {
     ghost converts = { λ e r. r ≡ record { place = e .place; fault = Rulebook (e .fault) } };
 
     fn from(at: At<BookFault>) -> FileFault {
-        FileFault { place: at.place, fault: Fault::Rulebook(at.fault) }
+        FileFault {
+            place: at.place,
+            fault: Fault::Rulebook(at.fault),
+        }
     }
 }
 

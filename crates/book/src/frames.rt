@@ -16,12 +16,22 @@ pub(crate) fn cut_part<'a>(bytes: &'a [u8], place: usize) -> Result<Part<'a>, At
     ensures whole_record_or_what_is_cut { λ r. ⌜ part-cut r ≡ cut place (now (bytes .entry)) ⌝ }
 {
     let [l0, l1, k0, k1, rest @ ..] = bytes else {
-        return Err(At { place, fault: FrameFault::RecordCut });
+        return Err(At {
+            place,
+            fault: FrameFault::RecordCut,
+        });
     };
     let size = u16::from_le_bytes([*l0, *l1]) as usize;
     if size > rest.len() {
-        return Err(At { place, fault: FrameFault::BodyCut });
+        return Err(At {
+            place,
+            fault: FrameFault::BodyCut,
+        });
     }
     let kind = u16::from_le_bytes([*k0, *k1]);
-    Ok(Part { place, kind, body: &rest[0..size] })
+    Ok(Part {
+        place,
+        kind,
+        body: &rest[0..size],
+    })
 }

@@ -2,6 +2,7 @@
 --     hall-rule level certificates sites grants denies    a rule of a hall, its sets as lists of their members
 --     hall-record level certificates site                 a record of a hall
 --     small-rules, small-entries, small-register          the small hall's
+--     blank-rule, blank-entry                             what stands in memory before a book is read into it
 use Prim.Native.Nat.{ℕ}
 use mathlib.Core.List.{List, [], _∷_}
 use Rattle.sets.specs.declared.set.Set.{Set}
@@ -29,3 +30,9 @@ small-entries = record { first = 1; second = 3; start = 100; duration = 60 } ∷
 
 abbrev pub small-register : List (ℕ × (Set × ℕ))
 small-register = hall-record 1 [] 4 ∷ (hall-record 4 (2 ∷ []) 4 ∷ (hall-record 4 (2 ∷ []) 5 ∷ (hall-record 1 (9 ∷ []) 4 ∷ [])))
+
+abbrev pub blank-rule : Rule (ℕ × (Set × Set))
+blank-rule = record { test = (0, (these [], these [])); grants = these []; denies = these [] }
+
+abbrev pub blank-entry : Entry
+blank-entry = record { first = 0; second = 0; start = 0; duration = 0 }

@@ -1,8 +1,12 @@
 // The record of a hall, the small hall of docs/MODEL.md, and how both are shown.
+mod memory;
 mod record;
 mod show;
 mod small;
+mod small_file;
 
+pub use memory::blank_entries;
+pub use memory::blank_rules;
 pub use record::Hall;
 pub use record::HallRecord;
 pub use record::HallTest;
@@ -15,3 +19,4 @@ pub use show::RuleLineDisplay;
 pub use small::small_entries;
 pub use small::small_register;
 pub use small::small_rules;
+pub use small_file::SMALL_FILE;

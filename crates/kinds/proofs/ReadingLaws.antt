@@ -21,10 +21,10 @@ pair-uses f g p q bs = both-use bs (f bs) g q (p bs)
 
 -- both halves are read
 pub pair-ok : {S R : Type 0} (f : List ℕ → Reading S) (g : List ℕ → Reading R) (bs rest : List ℕ) (x : S × ℕ) (y : R × ℕ)
-  → Ok x ≡ f bs → rest ≡ drop (x .1) bs → Ok y ≡ g rest → Ok ((x .0, y .0), x .1 + y .1) ≡ read-pair f g bs
+    → Ok x ≡ f bs → rest ≡ drop (x .1) bs → Ok y ≡ g rest → Ok ((x .0, y .0), x .1 + y .1) ≡ read-pair f g bs
 pair-ok f g bs rest x y p q r = simp (sym p, sym (r ∙ ap g q))
 
 -- the second half is refused
 pub pair-err : {S R : Type 0} (f : List ℕ → Reading S) (g : List ℕ → Reading R) (bs rest : List ℕ) (x : S × ℕ) (e : TestFault)
-  → Ok x ≡ f bs → rest ≡ drop (x .1) bs → Err e ≡ g rest → Err e ≡ read-pair f g bs
+    → Ok x ≡ f bs → rest ≡ drop (x .1) bs → Err e ≡ g rest → Err e ≡ read-pair f g bs
 pair-err f g bs rest x e p q r = simp (sym p, sym (r ∙ ap g q))

@@ -29,5 +29,8 @@ pub(crate) fn read_set(bytes: &[u8]) -> Result<(Set, usize), TestFault>
     let [b0, b1, b2, b3, b4, b5, b6, b7, ..] = bytes else {
         return Err(TestFault::TooShort);
     };
-    Ok((Set::from_le_bytes([*b0, *b1, *b2, *b3, *b4, *b5, *b6, *b7]), 8))
+    Ok((
+        Set::from_le_bytes([*b0, *b1, *b2, *b3, *b4, *b5, *b6, *b7]),
+        8,
+    ))
 }

@@ -5,7 +5,6 @@ mod kind;
 mod level;
 mod pair;
 mod site;
-
 #[cfg(test)]
 mod tests;
 

@@ -62,13 +62,14 @@ subset-decides s t = (
 
 pub disjoint-decides : (s t : Set) → Decides (disjoint s t) ((i : ℕ) → member s i ≡ true → member t i ≡ false)
 unfolding disjoint
-disjoint-decides s t =
-    ( (λ e i m.
-        let f : ℕ → Bool = λ k. member s k && member t k in
-        let none = none-passes f (not-true (some f) e) i (member-below s i m) in
-        ⊎-elim (λ y. absurd (both-ways (f i) none (and-from (member s i) (member t i) m y))) (λ n. n) (cases-bool (member t i)))
-    , (λ h. not-from-false (some (λ k. member s k && member t k)) (none-some (λ k. member s k && member t k) (λ i _.
-        ⊎-elim (λ m. and-right (member s i) (member t i) (h i m)) (λ n. and-left (member s i) (member t i) n) (cases-bool (member s i))))) )
+disjoint-decides s t = (
+  (λ e i m.
+      let f : ℕ → Bool = λ k. member s k && member t k in
+      let none = none-passes f (not-true (some f) e) i (member-below s i m) in
+      ⊎-elim (λ y. absurd (both-ways (f i) none (and-from (member s i) (member t i) m y))) (λ n. n) (cases-bool (member t i))),
+  (λ h. not-from-false (some (λ k. member s k && member t k)) (none-some (λ k. member s k && member t k) (λ i _.
+      ⊎-elim (λ m. and-right (member s i) (member t i) (h i m)) (λ n. and-left (member s i) (member t i) n) (cases-bool (member s i))))),
+)
 
 -- what the code's tests on numbers tell of members
 pub zero-decides : (s : Set) → Decides (eqb (s .bits) 0) ((i : ℕ) → member s i ≡ false)

@@ -19,6 +19,7 @@ use rules::Entry;
 use rules::Rule;
 
 const MOST_RULES: usize = 64;
+
 const MOST_ENTRIES: usize = 32;
 
 impl Draft {
@@ -27,11 +28,18 @@ impl Draft {
         ensures no_rule { λ r. ⌜ r .rules ≡ 0 ⌝ }
         ensures no_entry { λ r. ⌜ r .entries ≡ 0 ⌝ }
     {
-        Draft { rules: 0, entries: 0 }
+        Draft {
+            rules: 0,
+            entries: 0,
+        }
     }
 
     // One rule more, at the first free place of the memory.
-    pub fn add_rule<K: Kind>(&mut self, memory: &mut [Rule<K::Test>], rule: Rule<K::Test>) -> Result<(), Fault>
+    pub fn add_rule<K: Kind>(
+        &mut self,
+        memory: &mut [Rule<K::Test>],
+        rule: Rule<K::Test>,
+    ) -> Result<(), Fault>
         ensures added_or_untouched { λ r. ⌜ Added (good-rule (meaning .lawful-test) rule) 64 (now (memory .entry)) rule (now (self .entry) .rules) (now (self .exit) .rules) (now (memory .exit)) r ⌝ }
         ensures entries_stay { λ _. ⌜ now (self .exit) .entries ≡ now (self .entry) .entries ⌝ }
     {
@@ -59,7 +67,11 @@ impl Draft {
     }
 
     // Puts the rule, whose fields are checked, at the first free place.
-    pub(crate) fn store_rule<T: Copy>(&mut self, memory: &mut [Rule<T>], rule: Rule<T>) -> Result<(), BookFault>
+    pub(crate) fn store_rule<T: Copy>(
+        &mut self,
+        memory: &mut [Rule<T>],
+        rule: Rule<T>,
+    ) -> Result<(), BookFault>
         ensures stored_or_untouched { λ r. ⌜ Stored 64 (now (memory .entry)) rule (now (self .entry) .rules) (now (self .exit) .rules) (now (memory .exit)) r ⌝ }
         ensures entries_stay { λ _. ⌜ now (self .exit) .entries ≡ now (self .entry) .entries ⌝ }
     {
@@ -68,7 +80,11 @@ impl Draft {
     }
 
     // The same of an entry.
-    pub(crate) fn store_entry(&mut self, memory: &mut [Entry], entry: Entry) -> Result<(), BookFault>
+    pub(crate) fn store_entry(
+        &mut self,
+        memory: &mut [Entry],
+        entry: Entry,
+    ) -> Result<(), BookFault>
         ensures stored_or_untouched { λ r. ⌜ Stored 32 (now (memory .entry)) entry (now (self .entry) .entries) (now (self .exit) .entries) (now (memory .exit)) r ⌝ }
         ensures rules_stay { λ _. ⌜ now (self .exit) .rules ≡ now (self .entry) .rules ⌝ }
     {

@@ -18,6 +18,7 @@ use rules::Entry;
 use rules::Rule;
 
 const EDITION: u16 = 2;
+
 const LAST_POLICY: u16 = 3;
 
 impl Scan {
@@ -28,11 +29,21 @@ impl Scan {
         ensures no_rule { λ r. ⌜ r .draft .rules ≡ 0 ⌝ }
         ensures no_entry { λ r. ⌜ r .draft .entries ≡ 0 ⌝ }
     {
-        Scan { begun: false, ended: false, policy: 0, draft: Draft::new() }
+        Scan {
+            begun: false,
+            ended: false,
+            policy: 0,
+            draft: Draft::new(),
+        }
     }
 
     // Takes what a record says into the rulebook, or says why it has no place there.
-    pub(crate) fn admit<T: Copy>(&mut self, content: Content<T>, rules: &mut [Rule<T>], entries: &mut [Entry]) -> Result<(), BookFault>
+    pub(crate) fn admit<T: Copy>(
+        &mut self,
+        content: Content<T>,
+        rules: &mut [Rule<T>],
+        entries: &mut [Entry],
+    ) -> Result<(), BookFault>
         requires { ⌜ Room (now self) (now rules) (now entries) ⌝ }
         ensures answered { λ r. ⌜ r ≡ answer (accepts (length (now (rules .entry))) (length (now (entries .entry))) (progress (now (self .entry)) (now (rules .entry)) (now (entries .entry))) content) ⌝ }
         ensures taken { λ r. ⌜ progress (now (self .exit)) (now (rules .exit)) (now (entries .exit)) ≡ after (progress (now (self .entry)) (now (rules .entry)) (now (entries .entry))) (accepts (length (now (rules .entry))) (length (now (entries .entry))) (progress (now (self .entry)) (now (rules .entry)) (now (entries .entry))) content) ⌝ }
@@ -64,14 +75,26 @@ impl Scan {
         ensures rules_of_the_draft { λ r. ⌜ r .book .rules ≡ self .draft .rules ⌝ }
         ensures entries_of_the_draft { λ r. ⌜ r .book .entries ≡ self .draft .entries ⌝ }
     {
-        let Scan { begun: _, ended: _, policy, draft } = self;
-        Opened { book: draft.seal(), policy }
+        let Scan {
+            begun: _,
+            ended: _,
+            policy,
+            draft,
+        } = self;
+        Opened {
+            book: draft.seal(),
+            policy,
+        }
     }
 
     fn has_begun(&self) -> Result<(), BookFault>
         ensures a_header_came_first { λ r. ⌜ r ≡ cond (now (self .entry) .begun) (Ok tt) (Err HeaderMisplaced) ⌝ }
     {
-        if self.begun { Ok(()) } else { Err(BookFault::HeaderMisplaced) }
+        if self.begun {
+            Ok(())
+        } else {
+            Err(BookFault::HeaderMisplaced)
+        }
     }
 
     fn begin(&mut self, header: Header) -> Result<(), BookFault>

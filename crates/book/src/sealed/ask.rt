@@ -33,5 +33,9 @@ impl Sealed {
 fn front<T>(items: &[T], count: usize) -> &[T]
     ensures the_first_of_them { λ r. ⌜ now r ≡ take count (now (items .entry)) ⌝ }
 {
-    if count < items.len() { &items[0..count] } else { items }
+    if count < items.len() {
+        &items[0..count]
+    } else {
+        items
+    }
 }

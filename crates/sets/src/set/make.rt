@@ -39,7 +39,9 @@ impl Set {
         ensures members_are_the_bits_that_are_one { λ r. ⌜ ((k : ℕ) → member r k ≡ bit (little 8 bytes) k) ⌝ }
         ensures is_the_set_of_that_number { λ r. ⌜ r ≡ numbered (little 8 bytes) ⌝ }
     {
-        Set { bits: u64::from_le_bytes(bytes) }
+        Set {
+            bits: u64::from_le_bytes(bytes),
+        }
     }
 
     // This set and the number i; one above 63 cannot be held and is left out.

@@ -9,9 +9,10 @@ use Rattle.book.specs.Contents.{all-zero}
 use Rattle.book.proofs.contents.read_filler.Needs as need
 
 pub returns-then-b-ne0 : need.returns-then-b-ne0
-returns-then-b-ne0 c = record
-  { all-zero =
-      sym (cond-false _ _ _ (sym (c .loop-b .inv) ∙ (at-drop-more all-zero (c .args .body .now) (c .loop-b .b-index) 0 (c .loop-b-test .taken) ∙ and-left _ _ (ne-eqb _ 0 (c .if-b-ne0 .taken))))) }
+returns-then-b-ne0 c = record {
+  all-zero =
+      sym (cond-false _ _ _ (sym (c .loop-b .inv) ∙ (at-drop-more all-zero (c .args .body .now) (c .loop-b .b-index) 0 (c .loop-b-test .taken) ∙ and-left _ _ (ne-eqb _ 0 (c .if-b-ne0 .taken)))));
+}
 
 pub loop-b-again : need.loop-b-again
 loop-b-again c =

@@ -9,6 +9,7 @@ pub returns : need.returns
 unfolding member
 returns c =
     let whole : c .from-le-bytes .result ≡ little 8 (c .args .bytes) = omega (arith, c .from-le-bytes .ensures) in
-    record
-      { members-are-the-bits-that-are-one = λ k. ap (λ n. bit n k) whole
-      ; is-the-set-of-that-number = numbered-is (c .from-le-bytes .result) (little 8 (c .args .bytes)) _ whole }
+    record {
+      members-are-the-bits-that-are-one = λ k. ap (λ n. bit n k) whole;
+      is-the-set-of-that-number = numbered-is (c .from-le-bytes .result) (little 8 (c .args .bytes)) _ whole;
+    }

@@ -26,7 +26,12 @@ fn placed<X, F>(place: usize, answer: Result<X, F>) -> Result<X, At<F>>
 }
 
 // Takes the next record.
-fn step<K: FileKind>(reader: &mut Reader, scan: &mut Scan, rules: &mut [Rule<K::Test>], entries: &mut [Entry]) -> Result<(), FileFault>
+fn step<K: FileKind>(
+    reader: &mut Reader,
+    scan: &mut Scan,
+    rules: &mut [Rule<K::Test>],
+    entries: &mut [Entry],
+) -> Result<(), FileFault>
     requires { ⌜ Room (now scan) (now rules) (now entries) ⌝ }
     ensures record_taken_or_refused { λ r. ⌜ Stepped (K·FileKind .reads) (K·Kind .meaning .lawful-test) (now (reader .entry)) (now (reader .exit)) (now (scan .entry)) (now (scan .exit)) (now (rules .entry)) (now (rules .exit)) (now (entries .entry)) (now (entries .exit)) r ⌝ }
 {
@@ -37,8 +42,13 @@ fn step<K: FileKind>(reader: &mut Reader, scan: &mut Scan, rules: &mut [Rule<K::
 }
 
 // Reads a rulebook file. Rules and entries are put at the front of the memory as they are accepted.
-pub fn read<K: FileKind>(bytes: &[u8], rules: &mut [Rule<K::Test>], entries: &mut [Entry]) -> Result<Opened, FileFault>
+pub fn read<K: FileKind>(
+    bytes: &[u8],
+    rules: &mut [Rule<K::Test>],
+    entries: &mut [Entry],
+) -> Result<Opened, FileFault>
     ensures accepts_exactly_well_formed_files_and_refuses_at_the_first_faulty_record { λ r. ⌜ Outcome (K·FileKind .reads) (K·Kind .meaning .lawful-test) (now (bytes .entry)) (now (rules .entry)) (now (entries .entry)) (now (rules .exit)) (now (entries .exit)) r ⌝ }
+    ensures reading_is_fixed_by_the_bytes_and_the_memory { λ _. ⌜ Exact (K·FileKind .reads) (K·Kind .meaning .lawful-test) ⌝ }
 {
     let mut reader = Reader::new(bytes);
     let mut scan = Scan::new();
@@ -46,7 +56,10 @@ pub fn read<K: FileKind>(bytes: &[u8], rules: &mut [Rule<K::Test>], entries: &mu
         step::<K>(&mut reader, &mut scan, rules, entries)?;
     }
     if reader.place < bytes.len() {
-        return Err(FileFault::from(At { place: reader.place, fault: BookFault::Trailing }));
+        return Err(FileFault::from(At {
+            place: reader.place,
+            fault: BookFault::Trailing,
+        }));
     }
     Ok(scan.finish())
 }
