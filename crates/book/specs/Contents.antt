@@ -5,6 +5,10 @@
 --     rule-content reads lawful bs      granted set, denied set, 8 bytes each, then exactly a test
 --     entry-content bs                  first role, second role, 1 byte each, start and duration, 4 bytes each
 --     end-content bs                    no byte
+--     all-zero bs                       every byte is 0
+--     entry-at bs                       the entry in the bytes, whatever its fields
+--     rule-from ...                     the rule, once its sets are known and its test was read
+--     said f r                          the answer r, what it says made a content by f
 --     Set-split bs r                    the 8 bytes of a set at the front of the bytes, and what follows them
 use mathlib.Core.Path.{_≡_}
 use mathlib.Core.List.{List, [], _∷_}

@@ -1,8 +1,9 @@
 -- DRAFTS: what adding to a draft answers, and what draft and memory then hold.
 --     has-room limit count xs      whether there is room for one more after the first `count` of xs, by the limit and the memory
 --     Added good limit xs x before after ys r
---                                  an add of x, whose fields are good or not, to the front of the memory xs: r is the answer,
---                                  `before` and `after` count what stands there, and ys is the memory after it
+--                                  an add of x, whose fields are good or not, after the first `before` of the memory xs: r is the answer,
+--                                  `after` counts what then stands there, and ys is the memory after it
+--     Stored limit xs x before after ys r    the same of fields that are checked already
 use mathlib.Core.Path.{_≡_}
 use mathlib.Core.List.{List}
 use mathlib.Core.Bool.{Bool, cond, _&&_}
@@ -26,7 +27,6 @@ pub record Added {X : Type 0} (good : Bool) (limit : ℕ) (xs : List X) (x : X) 
   pub counted : after ≡ cond (isOk r) (before + 1) before
   pub written : ys ≡ cond (isOk r) (set xs before x) xs
 
--- the same of fields that are checked already
 pub record Stored {X : Type 0} (limit : ℕ) (xs : List X) (x : X) (before after : ℕ) (ys : List X) (r : Result (Unit {0}) BookFault) : Type 0 where
   pub answer : r ≡ cond (has-room limit before xs) (Ok tt) (Err Full)
   pub counted : after ≡ cond (isOk r) (before + 1) before

@@ -5,13 +5,18 @@
 --     Each-says xss cs        the records xss say the contents cs, one by one
 --     plain c                 a filler, a rule or an entry
 --     rules-of cs, entries-of cs    those among the contents, in order
---     Opening cs              the contents may stand at the front of a file: none, or a good header, then plain ones, and no more
---                             rules and entries than the limits and the memory allow
+--     Body h cs               the header is good, the contents are plain, and they hold no more rules and entries than the limits and
+--                             the memory allow
+--     Opening cs              the contents may stand at the front of a file: none, or a header and its body
 --     Whole h cs all          `all` is the header h, then the plain contents cs, then the end: a whole rulebook
 --     Begins-with bs P        the bytes begin with a record of which P holds
+--     Saying Q xs             the record xs says a content of which Q holds
+--     Misplaced cs c, Unknown c, Too-many cs c    why the content c has no place after the contents cs
 --     Faulty cs bs f          after the contents cs, f is what is wrong with the bytes bs that follow
---     Accepted bytes h cs     the file is the records of a whole rulebook in a row, and nothing after them
+--     Accepted bytes h cs all the file is the records of a whole rulebook in a row, and nothing after them
 --     Refused bytes cs f      records that say cs stand at the front of the file, and what follows them is faulty
+--     Opens o h cs            the answer o counts what the contents hold, and has the header's policy code
+--     Answer cs r             what `read` answers where the records have said cs
 --     Outcome ...             what `read` answers, and what the memory then holds
 --     Exact                   two outcomes over the same bytes and memory are equal
 use mathlib.Core.Path.{_≡_}

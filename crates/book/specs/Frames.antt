@@ -1,5 +1,8 @@
--- FRAMES: how records stand one after the other in a file.
+-- FRAMES: how records stand one after the other in a file. For the private functions of the reader.
 --     Piece            a record as it stands in the file: where it starts, its kind, its body
+--     piece-at p bs    the record that the bytes bs at the place p would be
+--     piece-end q      where it ends
+--     piece-of x       a record of the code, by what its body holds
 --     cut p bs         the record at the front of the bytes bs, which start at the place p; or which part of it is cut off
 --     place-after p r  where the next record starts, after the answer r at the place p
 --     part-cut r       the code's answer, by what the body holds

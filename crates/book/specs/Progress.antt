@@ -3,7 +3,9 @@
 --     Progress               what is accepted so far; `begun` after the header, `ended` after the end record
 --     nothing-yet            before the first record
 --     accepts m n b c        the progress b takes the content c, with memory for m rules and n entries
+--     one-more limit m xs    there is room for one after the xs, by the limit and the memory
 --     after b r, answer r    the progress after an answer, and the answer alone
+--     by-book, by-content, by-cut    the verdict, once the layer below has answered
 --     verdict ... b p bs     on the record at the front of the bytes bs, which start at the place p
 use mathlib.Core.List.{List, [], _∷_, _++_}
 use mathlib.Core.Bool.{Bool, true, false, cond, _&&_}

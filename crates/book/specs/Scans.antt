@@ -4,7 +4,7 @@
 --     Rest s t rs rs′ es es′    the memory past what is counted is as it was
 use mathlib.Core.Path.{_≡_}
 use mathlib.Core.List.{List}
-use Prim.Native.Nat.{ℕ, _≤_}
+use Prim.Native.Nat.{_≤_}
 use lib.ListN.{length, drop, take}
 use Rattle.rules.specs.declared.entry.Entry.{Entry}
 use Rattle.rules.specs.declared.rule.Rule.{Rule}

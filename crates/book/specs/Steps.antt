@@ -18,7 +18,7 @@ use Rattle.book.specs.declared.reader.Reader.{Reader}
 use Rattle.book.specs.declared.scan.Scan.{Scan}
 use Rattle.book.specs.Frames.{cut, place-after}
 use Rattle.kinds.specs.Readings.{Reading}
-use Rattle.book.specs.Progress.{Progress, verdict, answer, after}
+use Rattle.book.specs.Progress.{verdict, answer, after}
 use Rattle.book.specs.Scans.{progress, Room, Rest}
 
 abbrev pub placed-at : {X F : Type 0} → ℕ → Result X F → Result X (At F)

@@ -1,8 +1,9 @@
-// The table of rulebook files on standard input, and what each is answered.
+// What adding to drafts is answered; then the table of rulebook files on standard input, and what each is answered.
 //
 // A line is a name, the memory for rules and for entries, and the file's bytes: words of hexadecimal digits, each perhaps
 // followed by `x` and how often it stands there. `#` begins a comment.
 mod bytes;
+mod drafts;
 
 use book::Layer;
 use book::read;
@@ -20,6 +21,7 @@ use kinds::SiteKind;
 use std::error::AnyError;
 
 fn main(rt: LibcRuntime) -> Result<(), AnyError> {
+    drafts::play(&rt)?;
     for line in rt.lines(rt.alloc()) {
         let text = line?;
         if !text.as_str().is_empty() && !text.as_str().starts_with('#') {

@@ -1,4 +1,4 @@
-// The record of a hall, the small hall of docs/MODEL.md, and how both are shown.
+// The record of a hall, the small hall of docs/MODEL.md, memory for a hall's rulebook, and how rules and entries are shown.
 mod memory;
 mod record;
 mod show;

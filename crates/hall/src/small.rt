@@ -1,5 +1,4 @@
 ghost use mathlib.Core.Path.{_≡_};
-ghost use Rattle.sets.specs.Members.{these};
 ghost use Rattle.hall.specs.SmallHall.{hall-rule, hall-record, small-rules, small-entries, small-register};
 use crate::record::HallRecord;
 use crate::record::HallTest;

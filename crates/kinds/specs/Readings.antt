@@ -4,6 +4,7 @@
 --     Uses-no-more-than-there-are reads    so it is for every byte string
 --     read-level        2 bytes
 --     read-set          8 bytes, for certificates and for sites
+--     after-first s n r, both-halves r rest    a pair, once its first half was read
 --     read-pair f g     the first half, then the second from what the first leaves
 use mathlib.Core.Bool.{cond}
 use mathlib.Core.List.{List}

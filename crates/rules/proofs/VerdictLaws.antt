@@ -21,7 +21,7 @@ use Rattle.rules.specs.declared.claim.Verdict.the-variants.{Entitled, NothingG
 use Rattle.rules.specs.declared.seniority.Seniority.{Seniority}
 use Rattle.rules.specs.Policies.{Judge, Nothing-granting-is-no, permission, denial, local-denial}
 use Rattle.rules.specs.Ranks.{is-senior, row-holds}
-use Rattle.rules.specs.Rules.{Book, Meets, Senior, Grants, Denies, Granting, Denying, Allowed, Permitted, Permitted-and-not-denied, Permitted-and-not-denied-locally}
+use Rattle.rules.specs.Rules.{Book, Meets, Senior, Grants, Denies, Granting, Denying, Allowed, Allowed-by, Permitted, Permitted-and-not-denied, Permitted-and-not-denied-locally}
 use Rattle.rules.specs.Verdicts.{Judged, Ruled}
 use Rattle.rules.proofs.PolicyLaws.{local-decides}
 
@@ -55,15 +55,22 @@ module _ {V S : Type 0} (b : Book V S) (v : V) (role now : ℕ) where
     pub senior : (i j : ℕ) → Decides (is-senior t i j) (Senior b i j)
 
   module _ (p n : Set) (t : Seniority) (g : Gathers p n t) where
-    pub allowed-is : (judge : Judge) → Decides (judge p n t) (Allowed b judge v role now)
-    allowed-is judge = (
-      (λ e. record { granting = p; denying = n; table = t; all-granting = g .granting; all-denying = g .denying; all-senior = g .senior; yes = e }),
+    pub allowed-by-is : (judge : Judge) → Decides (judge p n t) (Allowed-by b judge t v role now)
+    allowed-by-is judge = (
+      (λ e. record { granting = p; denying = n; all-granting = g .granting; all-denying = g .denying; yes = e }),
       (λ a.
           let ep : a .granting ≡ p = same-holds (Granting b v role now) (a .granting) p (a .all-granting) (g .granting) in
           let en : a .denying ≡ n = same-holds (Denying b v role) (a .denying) n (a .all-denying) (g .denying) in
-          let et : a .table ≡ t = same-table (a .table) t (λ i j. same-from-decides _ _ (a .all-senior i j) (g .senior i j)) in
           let y = a .yes in
           cc),
+    )
+
+    pub allowed-is : (judge : Judge) → Decides (judge p n t) (Allowed b judge v role now)
+    allowed-is judge = (
+      (λ e. record { table = t; all-senior = g .senior; by-table = allowed-by-is judge .0 e }),
+      (λ a.
+          let et : a .table ≡ t = same-table (a .table) t (λ i j. same-from-decides _ _ (a .all-senior i j) (g .senior i j)) in
+          allowed-by-is judge .1 (subst (λ z. Allowed-by b judge z v role now) et (a .by-table))),
     )
 
     pub ruled : (judge : Judge) (verdict : Verdict) → Judged (judge p n t) (record { granting = p; denying = n }) verdict → Ruled b judge v role now verdict
@@ -144,3 +151,38 @@ module _ {V S : Type 0} (b : Book V S) (v : V) (role now : ℕ) where
     denying = λ i. decides-like (member n i) (λ w. (met-are i .0 (w .0), w .1)) (λ w. (met-are i .1 (w .0), w .1)) (n-are i);
     senior = ranks;
   }
+
+-- the policy says yes to the rules of a set, by a table
+module _ {V S : Type 0} (b : Book V S) (judge : Judge) (met : Set) (t : Seniority) (role now : ℕ) where
+  pub record Over : Type 0 where
+    pub granting : Set
+    pub denying : Set
+    pub all-granting : Holds (λ i. (member met i ≡ true) × Grants b role now i) granting
+    pub all-denying : Holds (λ i. (member met i ≡ true) × Denies b role i) denying
+    pub yes : judge granting denying t ≡ true
+
+  pub over-is : (p n : Set) → Holds (λ i. (member met i ≡ true) × Grants b role now i) p → Holds (λ i. (member met i ≡ true) × Denies b role i) n → Decides (judge p n t) Over
+  over-is p n p-are n-are = (
+    (λ e. record { granting = p; denying = n; all-granting = p-are; all-denying = n-are; yes = e }),
+    (λ o.
+        let ep : o .granting ≡ p = same-holds _ (o .granting) p (o .all-granting) p-are in
+        let en : o .denying ≡ n = same-holds _ (o .denying) n (o .all-denying) n-are in
+        let y = o .yes in
+        cc),
+  )
+
+  -- which is to be entitled, where they are the rules that a record meets and the table is the rulebook's
+  pub over-allowed : (v : V) → Holds (Meets b v) met → ((i j : ℕ) → Decides (is-senior t i j) (Senior b i j)) → Over ↔ Allowed b judge v role now
+  over-allowed v met-are ranks = (
+    (λ o. allowed-is b v role now (o .granting) (o .denying) t (gathers b v role now met (o .granting) (o .denying) t met-are (o .all-granting) (o .all-denying) ranks) judge .0 (o .yes)),
+    (λ a.
+        let w = a .by-table in
+        let et : a .table ≡ t = same-table (a .table) t (λ i j. same-from-decides _ _ (a .all-senior i j) (ranks i j)) in
+        record {
+          granting = w .granting;
+          denying = w .denying;
+          all-granting = λ i. decides-like (member (w .granting) i) (λ g. (met-are i .1 (g .0), g .1)) (λ g. (met-are i .0 (g .0), g .1)) (w .all-granting i);
+          all-denying = λ i. decides-like (member (w .denying) i) (λ g. (met-are i .1 (g .0), g .1)) (λ g. (met-are i .0 (g .0), g .1)) (w .all-denying i);
+          yes = subst (λ z. judge (w .granting) (w .denying) z ≡ true) et (w .yes);
+        }),
+  )

@@ -1,5 +1,5 @@
 -- RANKS: a table of seniority.
---     is-senior t i j      by the table t, rule i is senior to rule j
+--     is-senior t i j     by the table t, rule i is senior to rule j
 --     comparable t i j    one of them is senior to the other
 use Prim.Native.Nat.{ℕ}
 use mathlib.Core.Bool.{Bool, false, _||_}

@@ -2,13 +2,15 @@
 --     Book                      a rulebook as it is read: the meaning of its tests, its rules and its assume entries
 --     Meets v i                 the record v meets rule i
 --     Senior i j                rule i is senior to rule j: its test implies the other's
---     Leads from role now       a live entry leads from the one role to the other
---     Grants role now i         rule i grants the role, or the first role of a live entry that leads to it
+--     Leads from role minute       a live entry leads from the one role to the other
+--     Grants role minute i         rule i grants the role, or the first role of a live entry that leads to it
 --     Denies role i             rule i denies the role
---     Granting v role now i     rule i is among the granting rules met
+--     Granting v role minute i     rule i is among the granting rules met
 --     Denying v role i          rule i is among the denying rules met
---     Allowed judge v role now  the policy says yes to these sets of rules: the record is entitled by rules
---     Permitted v role now, Permitted-and-not-denied v role now, Permitted-and-not-denied-locally v role now
+--     Allowed-by judge table v role minute    the policy says yes to these sets of rules, by the table of seniority
+--     Allowed judge v role minute    so it is by the rulebook's own seniority: the record is entitled by rules
+--     seen m view               the rulebook that a view reads, its tests by the meaning m
+--     Permitted v role minute, Permitted-and-not-denied v role minute, Permitted-and-not-denied-locally v role minute
 --                               what Allowed comes to under the three shipped policies
 use mathlib.Core.Path.{_≡_}
 use mathlib.Core.List.{List}
@@ -52,20 +54,20 @@ module _ {V S : Type 0} (b : Book V S) where
     pub lower-found : nth (b .rules) j ≡ Some lower
     pub implied : Implied (b .meaning) (upper .test) (lower .test)
 
-  pub record Leads (from role now : ℕ) : Type 0 where
+  pub record Leads (from role minute : ℕ) : Type 0 where
     pub place : ℕ
     pub entry : Entry
     pub found : nth (b .entries) place ≡ Some entry
     pub from-first : entry .first ≡ from
     pub to-second : entry .second ≡ role
-    pub live : Live entry now
+    pub live : Live entry minute
 
-  pub record Grants (role now i : ℕ) : Type 0 where
+  pub record Grants (role minute i : ℕ) : Type 0 where
     pub rule : Rule S
     pub found : nth (b .rules) i ≡ Some rule
     pub from : ℕ
     pub granted : member (rule .grants) from ≡ true
-    pub arrives : (from ≡ role) ⊎ Leads from role now
+    pub arrives : (from ≡ role) ⊎ Leads from role minute
 
   pub record Denies (role i : ℕ) : Type 0 where
     pub rule : Rule S
@@ -73,26 +75,30 @@ module _ {V S : Type 0} (b : Book V S) where
     pub denied : member (rule .denies) role ≡ true
 
   abbrev pub Granting : V → ℕ → ℕ → ℕ → Type 0
-  Granting v role now i = Meets v i × Grants role now i
+  Granting v role minute i = Meets v i × Grants role minute i
 
   abbrev pub Denying : V → ℕ → ℕ → Type 0
   Denying v role i = Meets v i × Denies role i
 
-  pub record Allowed (judge : Judge) (v : V) (role now : ℕ) : Type 0 where
+  -- the policy says yes to the granting and the denying rules met, by a table of seniority
+  pub record Allowed-by (judge : Judge) (table : Seniority) (v : V) (role minute : ℕ) : Type 0 where
     pub granting : Set
     pub denying : Set
-    pub table : Seniority
-    pub all-granting : (i : ℕ) → Decides (member granting i) (Granting v role now i)
+    pub all-granting : (i : ℕ) → Decides (member granting i) (Granting v role minute i)
     pub all-denying : (i : ℕ) → Decides (member denying i) (Denying v role i)
-    pub all-senior : (i j : ℕ) → Decides (is-senior table i j) (Senior i j)
     pub yes : judge granting denying table ≡ true
 
+  pub record Allowed (judge : Judge) (v : V) (role minute : ℕ) : Type 0 where
+    pub table : Seniority
+    pub all-senior : (i j : ℕ) → Decides (is-senior table i j) (Senior i j)
+    pub by-table : Allowed-by judge table v role minute
+
   abbrev pub Permitted : V → ℕ → ℕ → Type 0
-  Permitted v role now = (i : ℕ) × Granting v role now i
+  Permitted v role minute = (i : ℕ) × Granting v role minute i
 
   abbrev pub Permitted-and-not-denied : V → ℕ → ℕ → Type 0
-  Permitted-and-not-denied v role now = Permitted v role now × ((j : ℕ) → Denying v role j → ⊥)
+  Permitted-and-not-denied v role minute = Permitted v role minute × ((j : ℕ) → Denying v role j → ⊥)
 
   abbrev pub Permitted-and-not-denied-locally : V → ℕ → ℕ → Type 0
-  Permitted-and-not-denied-locally v role now =
-      (i : ℕ) × Granting v role now i × ((j : ℕ) → Denying v role j → (Senior i j → ⊥) × (Senior j i → ⊥))
+  Permitted-and-not-denied-locally v role minute =
+      (i : ℕ) × Granting v role minute i × ((j : ℕ) → Denying v role j → (Senior i j → ⊥) × (Senior j i → ⊥))

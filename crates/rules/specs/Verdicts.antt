@@ -1,6 +1,6 @@
 -- VERDICTS: what rules and policy say of a record and a role.
 --     Judged answer claim verdict        of a claim to which the policy gives the answer
---     Ruled b judge v role now verdict   of a record: it is entitled, or no rule met grants the role, or it is refused, and
+--     Ruled b judge v role minute verdict   of a record: it is entitled, or no rule met grants the role, or it is refused, and
 --                                        the verdict names the lowest of the denying rules met
 --     judge-of policy                    what the shipped policy says
 --     code policy                        the shipped policy's code in a rulebook file
@@ -22,10 +22,10 @@ Judged answer c NothingGrants = (i : ℕ) → member (c .granting) i ≡ false
 Judged answer c (Denied rule) = (answer ≡ false) × ((i : ℕ) × (member (c .granting) i ≡ true)) × Lowest-from (c .denying) 0 rule
 
 abbrev pub Ruled : {V S : Type 0} → Book V S → Judge → V → ℕ → ℕ → Verdict → Type 0
-Ruled b judge v role now Entitled = Allowed b judge v role now
-Ruled b judge v role now NothingGrants = Permitted b v role now → ⊥
-Ruled b judge v role now (Denied rule) =
-    (Allowed b judge v role now → ⊥) × Permitted b v role now × Denying b v role rule × ((j : ℕ) → j < rule → Denying b v role j → ⊥)
+Ruled b judge v role minute Entitled = Allowed b judge v role minute
+Ruled b judge v role minute NothingGrants = Permitted b v role minute → ⊥
+Ruled b judge v role minute (Denied rule) =
+    (Allowed b judge v role minute → ⊥) × Permitted b v role minute × Denying b v role rule × ((j : ℕ) → j < rule → Denying b v role j → ⊥)
 
 abbrev pub judge-of : Shipped → Judge
 judge-of Permission = permission

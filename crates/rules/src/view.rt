@@ -8,6 +8,7 @@ mod claims;
 mod lend;
 mod met;
 mod ranks;
+mod roles;
 mod verdicts;
 
 // A rulebook as it is read: the rules and entries that the caller lends, taken up anew at each call.

@@ -1,7 +1,8 @@
 -- MEMBERS: which numbers a set holds.
 --     bit n i         binary digit i of n is 1
 --     member s i      number i is in the set s
---     some f          some number 0 to 63 passes the test f
+--     some-below n f  some number below n passes the test f
+--     some f          some number 0 to 63 does
 --     empty s         no number is in s
 --     subset s t      no number is in s and not in t
 --     disjoint s t    no number is in both
@@ -26,7 +27,6 @@ bit n i = eqb (n / 2 ^ i % 2) 1
 unfoldable pub member : Set → ℕ → Bool
 member s i = bit (s .bits) i
 
--- some number below n passes the test
 unfoldable pub some-below : ℕ → (ℕ → Bool) → Bool
 some-below zero f = false
 some-below (suc n) f = f n || some-below n f

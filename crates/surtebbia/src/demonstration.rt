@@ -1,6 +1,5 @@
 // Who may take what in the small hall, from the bytes of its rulebook file to the last verdict.
 use crate::show;
-use crate::who::roles_of;
 use book::read;
 use hall::Hall;
 use hall::HallRecord;
@@ -75,7 +74,7 @@ fn entitled(
     minute: u32,
 ) -> Result<(), AnyError> {
     for (person, record) in register.iter().enumerate() {
-        let roles = Numbers(roles_of(view, policy, *record, minute, ROLES));
+        let roles = Numbers(view.entitled_roles(&policy, *record, minute));
         print!(rt, "  minute {minute}, person {person}: roles {roles}")?;
         refusals(rt, view, policy, *record, minute)?;
         println!(rt, "")?;

@@ -18,9 +18,7 @@ use kinds::SiteFile;
 use kinds::SiteKind;
 use rules::Shipped;
 use rules::ShippedPolicy;
-use rules::Verdict;
 use rules::View;
-use sets::Set;
 use std::error::AnyError;
 use std::fs;
 
@@ -78,27 +76,10 @@ fn answer(
     match read::<Hall>(bytes.as_slice(), &mut rules, &mut entries) {
         Ok(opened) => {
             let view: View<Hall> = opened.book.view(&rules, &entries);
-            let roles = Numbers(roles_of(&view, policy, record, minute, 64));
+            let roles = Numbers(view.entitled_roles(&policy, record, minute));
             println!(rt, "roles {roles}")?;
             Ok(())
         }
         Err(fault) => show::refusal(rt, &fault),
     }
-}
-
-// Of the first roles, those to which the record is entitled by rules.
-pub fn roles_of(
-    view: &View<Hall>,
-    policy: Shipped,
-    record: HallRecord,
-    minute: u32,
-    first: u8,
-) -> Set {
-    let mut roles = Set::new();
-    for role in 0..first {
-        if let Verdict::Entitled = view.verdict(&policy, record, role, minute) {
-            roles = roles.with(role);
-        }
-    }
-    roles
 }

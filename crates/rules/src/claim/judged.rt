@@ -23,7 +23,8 @@ impl Claim {
         }
     }
 
-    fn is_allowed<P: Policy>(self, policy: &P, senior: &Seniority) -> bool
+    // Whether the policy says yes to it.
+    pub fn is_allowed<P: Policy>(self, policy: &P, senior: &Seniority) -> bool
         ensures what_the_policy_says { λ r. ⌜ r ≡ judge (now (policy .entry)) (self .granting) (self .denying) (now (senior .entry)) ⌝ }
     {
         policy.says(self.granting, self.denying, senior)

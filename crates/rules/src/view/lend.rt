@@ -1,6 +1,5 @@
-ghost use Prim.Native.Nat.{_≤_};
 ghost use mathlib.Core.Path.{_≡_};
-ghost use lib.ListN.{length, take};
+ghost use lib.ListN.{take};
 use super::View;
 use crate::entry::Entry;
 use crate::rule::Rule;
