@@ -1,0 +1,2 @@
+pub mod LoanLaws
+pub mod RulingLaws
