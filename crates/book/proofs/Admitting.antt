@@ -2,7 +2,7 @@
 use mathlib.Core.Path.{_≡_, refl, sym, ap, _∙_}
 use mathlib.Core.List.{List, [], _∷_, _++_}
 use mathlib.Core.Bool.{Bool, true, false, cond, _&&_}
-use mathlib.Core.Logic.{_⊎_, inl, inr, ⊎-elim}
+use mathlib.Core.Logic.{⊎-elim}
 use Prim.Native.Nat.{ℕ, _+_, _≤_, _<_}
 use native.Mathlib.Omega.{arith}
 use lib.Dec.{ltb}
@@ -21,7 +21,7 @@ use Rattle.book.specs.declared.faults.BookFault.{BookFault}
 use Rattle.book.specs.declared.faults.BookFault.the-variants.{Full, HeaderMisplaced}
 use Rattle.book.specs.declared.scan.Scan.{Scan}
 use Rattle.book.specs.Drafts.{Stored, has-room}
-use Rattle.book.specs.Progress.{Progress, one-more, accepts, after, answer}
+use Rattle.book.specs.Progress.{one-more, accepts, after, answer}
 use Rattle.book.specs.Scans.{progress, Room, Rest}
 
 -- the four promises of an admission

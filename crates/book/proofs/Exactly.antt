@@ -1,14 +1,14 @@
 -- One answer for the bytes: a record is what stands at their front, and nothing else.
 use mathlib.Core.Path.{_≡_, refl, sym, ap, subst, _∙_}
 use mathlib.Core.List.{List, [], _∷_, _++_}
-use mathlib.Core.Bool.{Bool, true, false, cond}
+use mathlib.Core.Bool.{Bool, true, false}
 use mathlib.Core.Logic.{_⊎_, inl, inr, ⊎-elim}
-use Prim.Native.Nat.{ℕ, _+_, _-_, _*_, _≤_, _<_}
-use native.Mathlib.Nat.{add-assoc, zero-add}
+use Prim.Native.Nat.{ℕ, _+_, _≤_}
+use native.Mathlib.Nat.{zero-add}
 use native.Mathlib.Bridge.{le-prop}
 use native.Mathlib.Omega.{arith}
-use lib.ListN.{length, drop, take, getD, length-drop, length-append, take-append-drop}
-use Rattle.std.proofs.shelf.Lists.{length-take-le, getD-append-left, getD-drop, drop-append-le, take-at, append-assoc, append-nil, append-cancel-left}
+use lib.ListN.{length, drop, take, length-append}
+use Rattle.std.proofs.shelf.Lists.{getD-append-left, getD-drop, drop-append-le, take-at, append-assoc, append-nil, append-cancel-left}
 use Rattle.std.proofs.shelf.Tests.{both-ways}
 use Rattle.std.specs.shelf.Lists.{joined}
 use Rattle.std.specs.declared.result.Result.{Result}
@@ -26,12 +26,11 @@ use Rattle.book.specs.declared.contents.Content.{Content}
 use Rattle.book.specs.declared.opened.Opened.{Opened}
 use Rattle.book.specs.declared.sealed.Sealed.{Sealed}
 use Rattle.sets.specs.Bytes.{little}
-use Rattle.book.specs.Frames.{Piece, piece-at, cut}
+use Rattle.book.specs.Frames.{cut}
 use Rattle.kinds.specs.Readings.{Reading}
-use Rattle.book.specs.Contents.{content}
-use Rattle.book.specs.Progress.{Progress, nothing-yet, accepts, by-book, by-content, by-cut, verdict}
+use Rattle.book.specs.Progress.{Progress, nothing-yet, by-book, by-content, by-cut, verdict}
 use Rattle.book.specs.Files.{Spells, Says, Exact}
-use Rattle.book.proofs.Runs.{Takes, Makes, Stops, Broken, Rejects, Counts, Run}
+use Rattle.book.proofs.Runs.{Takes, Makes, Stops, Rejects, Counts, Run}
 use Rattle.book.proofs.Untold.{untold}
 use Rattle.book.proofs.FrameLaws.{cut-short, cut-long, cut-is}
 

@@ -1,8 +1,8 @@
 -- What a file's reading keeps from record to record.
 use mathlib.Core.Path.{_≡_, refl, sym, ap, subst, _∙_}
 use mathlib.Core.List.{List, [], _∷_, _++_}
-use mathlib.Core.Bool.{Bool, true, false, cond}
-use Prim.Native.Nat.{ℕ, _+_, _-_, _*_, _≤_, _<_}
+use mathlib.Core.Bool.{Bool, true, false}
+use Prim.Native.Nat.{ℕ, _+_, _-_, _≤_, _<_}
 use native.Mathlib.Omega.{arith}
 use lib.ListN.{length, drop, take, length-drop, take-append-drop}
 use lib.Seq.{take-add}
@@ -19,13 +19,12 @@ use Rattle.rules.specs.declared.entry.Entry.{Entry}
 use Rattle.book.specs.declared.reader.Reader.{Reader}
 use Rattle.book.specs.declared.scan.Scan.{Scan}
 use Rattle.book.specs.declared.opened.Opened.{Opened}
-use Rattle.book.specs.Frames.{cut, place-after}
 use Rattle.kinds.specs.Readings.{Reading}
 use Rattle.book.specs.Progress.{Progress, nothing-yet, verdict, answer, after}
-use Rattle.book.specs.Scans.{progress, Room, Rest}
+use Rattle.book.specs.Scans.{progress, Room}
 use Rattle.book.specs.Steps.{left, Stepped}
 use Rattle.book.proofs.Runs.{Makes, Takes, Run}
-use Rattle.book.proofs.Filing.{front, Onward, onward, makes-more, faulty-record}
+use Rattle.book.proofs.Filing.{front, onward, makes-more, faulty-record}
 
 abbrev whole : List (List ℕ) → List ℕ
 whole xss = joined (λ xs. xs) xss

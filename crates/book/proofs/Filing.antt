@@ -2,16 +2,11 @@
 use mathlib.Core.Path.{_≡_, refl, sym, ap, subst, _∙_}
 use mathlib.Core.List.{List, [], _∷_, _++_}
 use mathlib.Core.Bool.{Bool, true, false, cond}
-use Prim.Native.Nat.{ℕ, _+_, _-_, _*_, _≤_, _<_}
+use Prim.Native.Nat.{ℕ, _+_, _-_, _≤_, _<_}
 use native.Mathlib.Omega.{arith}
-use borrow.Author.Needs.{needs}
-use lib.Dec.{leb}
 use lib.ListN.{length, drop, take, getD, length-drop, take-append-drop}
-use lib.Seq.{take-add}
-use denote.Ref.{now}
-use Rattle.std.proofs.shelf.Lists.{length-take-le, getD-take, getD-drop, drop-take, drop-drop, joined-more, take-take}
+use Rattle.std.proofs.shelf.Lists.{length-take-le, getD-take, getD-drop, drop-take}
 use Rattle.std.proofs.shelf.Ways.{tells}
-use Rattle.std.specs.shelf.Lists.{joined}
 use Rattle.std.specs.declared.result.Result.{Result}
 use Rattle.std.specs.declared.result.Result.the-variants.{Ok, Err}
 use Rattle.book.specs.declared.faults.At.{At}
@@ -22,17 +17,15 @@ use Rattle.book.specs.declared.faults.BookFault.{BookFault}
 use Rattle.book.specs.declared.faults.BookFault.the-variants.{HeaderMisplaced, HeaderUnknown, Full, Trailing}
 use Rattle.book.specs.declared.faults.FileFault.{FileFault}
 use Rattle.book.specs.declared.faults.Fault.the-variants.{Frame, Record, Rulebook}
-use Rattle.rules.specs.declared.rule.Rule.{Rule}
-use Rattle.rules.specs.declared.entry.Entry.{Entry}
 use Rattle.book.specs.declared.contents.Content.{Content}
 use Rattle.book.specs.declared.contents.Content.the-variants.{Filler, Heading, NewRule, NewEntry, End}
 use Rattle.sets.specs.Bytes.{little}
 use Rattle.book.specs.Frames.{Piece, piece-at, piece-end, cut, place-after}
 use Rattle.kinds.specs.Readings.{Reading}
 use Rattle.book.specs.Contents.{content}
-use Rattle.book.specs.Progress.{Progress, nothing-yet, accepts, by-book, by-content, by-cut, verdict, answer, after}
+use Rattle.book.specs.Progress.{Progress, accepts, by-book, by-content, by-cut, verdict}
 use Rattle.book.specs.Files.{Spells, Says}
-use Rattle.book.proofs.Runs.{Takes, Makes, Stops, Broken, Rejects}
+use Rattle.book.proofs.Runs.{Takes, Makes, Stops}
 
 -- a record that is cut: how it lies in the bytes
 pub record Lies (p : ℕ) (bs : List ℕ) (q : Piece) : Type 0 where

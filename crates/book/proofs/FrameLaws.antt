@@ -9,7 +9,7 @@ use Rattle.std.proofs.shelf.Lists.{take-rest}
 use Rattle.std.specs.declared.result.Result.the-variants.{Ok, Err}
 use Rattle.sets.specs.Bytes.{little}
 use Rattle.book.specs.declared.faults.FrameFault.the-variants.{RecordCut, BodyCut}
-use Rattle.book.specs.Frames.{Piece, cut, piece-at}
+use Rattle.book.specs.Frames.{cut, piece-at}
 
 pub cut-short : (p : ℕ) (bs : List ℕ) → length bs < 4 → cut p bs ≡ Err (record { place = p; fault = RecordCut })
 cut-short p bs h = search needs

@@ -1,28 +1,25 @@
 -- From the reader's progress to what the file says.
 use mathlib.Core.Path.{_≡_, refl, sym, ap, subst, _∙_}
 use mathlib.Core.List.{List, [], _∷_, _++_}
-use mathlib.Core.Bool.{Bool, true, false, cond, _&&_}
+use mathlib.Core.Bool.{Bool, true, false, cond}
 use mathlib.Core.Logic.{_⊎_, inl, inr, ⊎-elim}
-use Prim.Native.Nat.{ℕ, _+_, _≤_, _<_}
+use Prim.Native.Nat.{ℕ, _+_, _≤_}
 use native.Mathlib.Omega.{arith}
 use lib.Dec.{ltb}
-use lib.ListN.{length, drop, length-append}
+use lib.ListN.{length, length-append}
 use Rattle.std.proofs.shelf.Lists.{append-assoc, append-nil}
-use Rattle.std.proofs.shelf.Tests.{both-ways, cases-bool, cond-true, cond-false, and-parts, and-cases, ltb-true, ltb-false}
+use Rattle.std.proofs.shelf.Tests.{both-ways, cond-true, and-parts, ltb-true}
 use Rattle.std.specs.shelf.Lists.{All}
 use Rattle.std.specs.declared.result.Result.{Result}
 use Rattle.std.specs.declared.result.Result.the-variants.{Ok, Err}
 use Rattle.kinds.specs.Readings.{Reading}
-use Rattle.rules.specs.declared.entry.Entry.{Entry}
-use Rattle.rules.specs.declared.rule.Rule.{Rule}
 use Rattle.book.specs.declared.contents.Content.{Content}
 use Rattle.book.specs.declared.contents.Content.the-variants.{Filler, Heading, NewRule, NewEntry, End}
 use Rattle.book.specs.declared.contents.Header.{Header}
-use Rattle.book.specs.declared.faults.BookFault.{BookFault}
 use Rattle.book.specs.declared.faults.BookFault.the-variants.{HeaderMisplaced, HeaderUnknown, Full}
-use Rattle.book.specs.Files.{Says, Each-says, Body, good-header, plain, rules-of, entries-of, Misplaced, Unknown, Too-many}
+use Rattle.book.specs.Files.{Says, Each-says, good-header, plain, rules-of, entries-of}
 use Rattle.book.specs.Progress.{Progress, nothing-yet, one-more, accepts}
-use Rattle.book.proofs.Runs.{Takes, Makes}
+use Rattle.book.proofs.Runs.{Makes}
 
 -- which answers of an acceptance cannot be
 ok-err : {X E : Type 0} (x : X) (e : E) → _≡_ {A = Result X E} (Ok x) (Err e) → ⊥

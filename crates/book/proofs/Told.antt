@@ -3,7 +3,7 @@ use mathlib.Core.Path.{_≡_, refl, sym, ap, subst, _∙_}
 use mathlib.Core.List.{List, [], _∷_, _++_}
 use mathlib.Core.Bool.{Bool, true, false}
 use mathlib.Core.Logic.{_⊎_, inl, inr, ⊎-elim}
-use Prim.Native.Nat.{ℕ, _≤_, _<_}
+use Prim.Native.Nat.{ℕ, _≤_}
 use native.Mathlib.Omega.{arith}
 use lib.ListN.{length, drop}
 use Rattle.std.proofs.shelf.Tests.{both-ways}
@@ -22,10 +22,10 @@ use Rattle.book.specs.declared.faults.Fault.{Fault}
 use Rattle.book.specs.declared.faults.Fault.the-variants.{Frame, Record, Rulebook}
 use Rattle.book.specs.declared.faults.FileFault.{FileFault}
 use Rattle.book.specs.declared.opened.Opened.{Opened}
-use Rattle.book.specs.Files.{Says, Each-says, Body, Begins-with, Saying, Faulty, Outcome, Answer, rules-of, entries-of}
+use Rattle.book.specs.Files.{Each-says, Body, Begins-with, Saying, Faulty, Outcome, rules-of, entries-of}
 use Rattle.book.specs.Progress.{Progress, nothing-yet, accepts}
 use Rattle.book.proofs.Runs.{Makes, Rejects, Stops, Run}
-use Rattle.book.proofs.Telling.{Went, Started, started, headed, rules-end, entries-end}
+use Rattle.book.proofs.Telling.{Started, started, rules-end, entries-end}
 use Rattle.book.proofs.Refusing.{first-misplaced, first-unknown, first-full, later-misplaced, later-unknown, later-full}
 
 module _ {S : Type 0} (reads : List ℕ → Reading S) (lawful : S → Bool) (m n : ℕ) where

@@ -1,9 +1,8 @@
 -- An outcome of the file is a run of the reader.
 use mathlib.Core.Path.{_≡_, refl, sym, ap, subst, _∙_}
 use mathlib.Core.List.{List, [], _∷_, _++_}
-use mathlib.Core.Bool.{Bool, true, false, _&&_}
-use mathlib.Core.Logic.{_⊎_, inl, inr, ⊎-elim}
-use Prim.Native.Nat.{ℕ, _+_, _≤_, _<_}
+use mathlib.Core.Bool.{Bool, true, false}
+use Prim.Native.Nat.{ℕ, _+_, _≤_}
 use native.Mathlib.Omega.{arith}
 use lib.Dec.{ltb}
 use lib.ListN.{length, drop, length-append}
@@ -29,7 +28,7 @@ use Rattle.book.specs.declared.faults.FileFault.{FileFault}
 use Rattle.book.specs.declared.opened.Opened.{Opened}
 use Rattle.book.specs.Files.{Says, Each-says, Body, Whole, Opening, Begins-with, Saying, Faulty, Outcome, plain, rules-of, entries-of}
 use Rattle.book.specs.Progress.{Progress, nothing-yet, one-more, accepts}
-use Rattle.book.proofs.Runs.{Takes, Makes, Rejects, Stops, Run}
+use Rattle.book.proofs.Runs.{Makes, Rejects, Stops, Run}
 use Rattle.book.proofs.Filing.{makes-more}
 use Rattle.book.proofs.Telling.{headed, rules-end, entries-end}
 use Rattle.book.proofs.Refusing.{misplaced-first, unknown-first, misplaced-later, full-later}

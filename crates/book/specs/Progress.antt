@@ -19,7 +19,6 @@ use Rattle.rules.specs.declared.entry.Entry.{Entry}
 use Rattle.rules.specs.declared.rule.Rule.{Rule}
 use Rattle.book.specs.declared.contents.Content.{Content}
 use Rattle.book.specs.declared.contents.Content.the-variants.{Filler, Heading, NewRule, NewEntry, End}
-use Rattle.book.specs.declared.contents.Header.{Header}
 use Rattle.book.specs.declared.faults.At.{At}
 use Rattle.book.specs.declared.faults.FrameFault.{FrameFault}
 use Rattle.book.specs.declared.faults.RecordFault.{RecordFault}

@@ -5,7 +5,7 @@ use mathlib.Core.Bool.{Bool, true, false, not, _&&_}
 use mathlib.Core.Logic.{⊎-elim}
 use lib.Dec.{ltb}
 use Rattle.std.specs.Orderings.{Decides}
-use Rattle.std.proofs.shelf.Tests.{and-from, and-parts, and-right, cases-bool, both-ways, lt-ltb, ltb-true, not-true, not-from-false}
+use Rattle.std.proofs.shelf.Tests.{and-from, and-parts, and-right, cases-bool, both-ways, lt-ltb, not-true, not-from-false}
 use Rattle.std.proofs.shelf.Ways.{decides-like}
 use Rattle.sets.specs.declared.set.Set.{Set}
 use Rattle.sets.specs.Members.{member, empty, subset}

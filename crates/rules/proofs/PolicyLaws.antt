@@ -1,7 +1,7 @@
 -- Why the shipped policies keep the three laws, and what local denial says in plain words.
-use Prim.Native.Nat.{ℕ, _<_}
-use mathlib.Core.Path.{_≡_, refl, sym, _∙_}
-use mathlib.Core.Bool.{Bool, true, false, not, _&&_, _||_}
+use Prim.Native.Nat.{ℕ}
+use mathlib.Core.Path.{_≡_}
+use mathlib.Core.Bool.{Bool, true, false, not, _&&_}
 use mathlib.Core.Logic.{⊎-elim}
 use Rattle.std.specs.Orderings.{Decides}
 use Rattle.std.proofs.shelf.Tests.{and-from, and-left, and-right, and-parts, or-from, or-parts, cases-bool, both-ways, not-true, not-from-true, not-from-false}
@@ -10,7 +10,7 @@ use Rattle.sets.specs.Members.{member, some, empty}
 use Rattle.sets.proofs.MemberLaws.{member-below, some-decides, none-some, none-passes, empty-decides, some-member, member-not-empty}
 use Rattle.rules.specs.declared.seniority.Seniority.{Seniority}
 use Rattle.rules.specs.Ranks.{is-senior, comparable}
-use Rattle.rules.specs.Policies.{Judge, Nothing-granting-is-no, Granting-and-nothing-denying-is-yes, Yes-stays-when-granting-gains-or-denying-loses, permission, denial, local-denial}
+use Rattle.rules.specs.Policies.{Nothing-granting-is-no, Granting-and-nothing-denying-is-yes, Yes-stays-when-granting-gains-or-denying-loses, permission, denial, local-denial}
 
 more-not-empty : (p more : Set) → ((i : ℕ) → member p i ≡ true → member more i ≡ true) → not (empty p) ≡ true → not (empty more) ≡ true
 more-not-empty p more gains e =

@@ -1,12 +1,12 @@
 -- What stands at a place of the loans, and what a sweep over them keeps.
-use Prim.Native.Nat.{ℕ, zero, suc, _+_, _<_, _≤_}
+use Prim.Native.Nat.{ℕ, _+_, _<_, _≤_}
 use mathlib.Core.Path.{_≡_, refl, sym, ap, subst, _∙_}
 use mathlib.Core.List.{List, [], _∷_, _++_}
 use native.Mathlib.Omega.{arith}
 use lib.ListN.{length, getD, take, drop, set, length-set}
 use Rattle.std.specs.Finite.{nth}
 use Rattle.std.specs.declared.option.Option.the-variants.{Some}
-use Rattle.std.proofs.shelf.Lists.{take-more, take-more-set, drop-set-lt, take-all, drop-drop, getD-drop}
+use Rattle.std.proofs.shelf.Lists.{take-more, take-more-set, drop-set-lt, drop-drop, getD-drop}
 use Rattle.std.proofs.shelf.Maps.{nth-getD}
 use Rattle.tables.specs.Loans.{Filtered}
 use Rattle.tables.specs.Loans.Filtered.{none, kept, left}

@@ -1,8 +1,7 @@
 -- From the sets that code gathers of a person to the words.
-use Prim.Native.Nat.{ℕ, _<_, _≤_}
-use mathlib.Core.Path.{_≡_, refl, sym, ap, subst, _∙_}
-use mathlib.Core.Bool.{Bool, true, false}
-use mathlib.Core.List.{List}
+use Prim.Native.Nat.{ℕ, _≤_}
+use mathlib.Core.Path.{_≡_, subst}
+use mathlib.Core.Bool.{true, false}
 use mathlib.Core.Logic.{⊎-elim}
 use native.Mathlib.Omega.{arith}
 use lib.ListN.{length}
@@ -16,7 +15,7 @@ use Rattle.sets.specs.Members.{member, empty}
 use Rattle.sets.proofs.MemberLaws.{empty-decides, some-member}
 use Rattle.sets.proofs.Gathering.{Holds, holds-none}
 use Rattle.rules.specs.Policies.{Nothing-granting-is-no}
-use Rattle.rules.specs.Rules.{Meets, Grants, Denies, Granting, Denying, Allowed-by}
+use Rattle.rules.specs.Rules.{Meets, Grants, Denies, Granting, Denying}
 use Rattle.rules.proofs.Places.{found-within, found-one}
 use Rattle.rules.proofs.VerdictLaws.{same-holds}
 use Rattle.tables.specs.Settings.{Setting, Met-by, Granted-by, Denied-by, By-rules}

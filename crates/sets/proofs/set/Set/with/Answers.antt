@@ -1,13 +1,11 @@
 use Prim.Native.Nat.{_^_}
-use mathlib.Core.Bool.{_&&_, _||_}
-use mathlib.Core.Path.{sym, ap, _∙_}
+use mathlib.Core.Bool.{_||_}
+use mathlib.Core.Path.{ap, _∙_}
 use native.Mathlib.Omega.{arith}
-use lib.Dec.{eqb, ltb}
-use Rattle.std.proofs.shelf.Bits.{or-lt, one-shl, pow-below, mod-below}
+use Rattle.std.proofs.shelf.Bits.{or-lt, one-shl, mod-below}
 use Rattle.std.proofs.shelf.Ways.{tells}
 use Rattle.sets.specs.Members.{bit, member}
 use Rattle.sets.proofs.BitLaws.{bit-or, bit-one}
-use Rattle.sets.proofs.MemberLaws.{member-past}
 use Rattle.sets.proofs.set.Set.with.Needs as need
 
 pub ghost-result : need.ghost-result

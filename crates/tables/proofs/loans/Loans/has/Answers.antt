@@ -1,8 +1,7 @@
-use mathlib.Core.Path.{refl, sym, _∙_}
+use mathlib.Core.Path.{refl}
 use mathlib.Core.Bool.{false}
 use native.Mathlib.Omega.{arith}
 use borrow.Author.Count.{below-more}
-use Prim.Native.Nat.{_<_}
 use lib.ListN.{length}
 use mathlib.Core.Path.{ap, subst}
 use Rattle.std.proofs.shelf.Tests.{both-ways}

@@ -1,4 +1,3 @@
-use mathlib.Core.Path.{sym}
 use Rattle.std.proofs.shelf.Ways.{decides-at}
 use Rattle.tables.specs.Settings.{setting}
 use Rattle.tables.proofs.RulingLaws.{by-rules-is}
