@@ -29,7 +29,7 @@ pub(crate) enum Content<T> {
 }
 
 fn read_filler(body: &[u8]) -> Result<(), RecordFault>
-    ensures all_zero { λ r. ⌜ r ≡ filler-content (now (body .entry)) ⌝ }
+    ensures accepts_exactly_zeros { λ r. ⌜ r ≡ filler-content (now (body .entry)) ⌝ }
 {
     for b in body {
         if *b != 0 {
@@ -73,7 +73,7 @@ fn read_entry(body: &[u8]) -> Result<Entry, RecordFault>
 }
 
 fn read_end(body: &[u8]) -> Result<(), RecordFault>
-    ensures nothing { λ r. ⌜ r ≡ end-content (now (body .entry)) ⌝ }
+    ensures accepts_exactly_an_empty_body { λ r. ⌜ r ≡ end-content (now (body .entry)) ⌝ }
 {
     match body {
         [] => Ok(()),

@@ -104,8 +104,8 @@ impl Draft {
 
 // Puts `item` after the first `count` in the memory, and answers how many there are then.
 fn store<T: Copy>(count: usize, limit: usize, memory: &mut [T], item: T) -> Result<usize, BookFault>
-    ensures answer { λ r. ⌜ r ≡ cond (has-room limit count (now (memory .entry))) (Ok (count + 1)) (Err Full) ⌝ }
-    ensures written { λ r. ⌜ now (memory .exit) ≡ cond (isOk r) (set (now (memory .entry)) count item) (now (memory .entry)) ⌝ }
+    ensures counts_one_more_where_there_is_room { λ r. ⌜ r ≡ cond (has-room limit count (now (memory .entry))) (Ok (count + 1)) (Err Full) ⌝ }
+    ensures writes_one_place_or_nothing { λ r. ⌜ now (memory .exit) ≡ cond (isOk r) (set (now (memory .entry)) count item) (now (memory .entry)) ⌝ }
 {
     if count >= limit || count >= memory.len() {
         return Err(BookFault::Full);

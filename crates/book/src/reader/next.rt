@@ -17,9 +17,9 @@ impl<'a> Reader<'a> {
 
     // The next record, handed out as a part of the bytes.
     pub(crate) fn next(&mut self) -> Result<Part<'a>, At<FrameFault>>
-        ensures answer { λ r. ⌜ part-cut r ≡ cut (now (self .entry) .place) (drop (now (self .entry) .place) (now (now (self .entry) .bytes))) ⌝ }
-        ensures moved { λ r. ⌜ now (self .exit) .place ≡ place-after (now (self .entry) .place) (part-cut r) ⌝ }
-        ensures same { λ r. ⌜ now (now (self .exit) .bytes) ≡ now (now (self .entry) .bytes) ⌝ }
+        ensures cuts_the_record_at_the_cursor { λ r. ⌜ part-cut r ≡ cut (now (self .entry) .place) (drop (now (self .entry) .place) (now (now (self .entry) .bytes))) ⌝ }
+        ensures cursor_after_the_record { λ r. ⌜ now (self .exit) .place ≡ place-after (now (self .entry) .place) (part-cut r) ⌝ }
+        ensures bytes_unchanged { λ r. ⌜ now (now (self .exit) .bytes) ≡ now (now (self .entry) .bytes) ⌝ }
     {
         let part = cut_part(&self.bytes[self.place..], self.place)?;
         self.place = part.place + (4 + part.body.len());

@@ -44,10 +44,10 @@ impl Scan {
         entries: &mut [Entry],
     ) -> Result<(), BookFault>
         requires { ⌜ Room (now self) (now rules) (now entries) ⌝ }
-        ensures answered { λ r. ⌜ r ≡ answer (accepts (length (now (rules .entry))) (length (now (entries .entry))) (progress (now (self .entry)) (now (rules .entry)) (now (entries .entry))) content) ⌝ }
-        ensures taken { λ r. ⌜ progress (now (self .exit)) (now (rules .exit)) (now (entries .exit)) ≡ after (progress (now (self .entry)) (now (rules .entry)) (now (entries .entry))) (accepts (length (now (rules .entry))) (length (now (entries .entry))) (progress (now (self .entry)) (now (rules .entry)) (now (entries .entry))) content) ⌝ }
-        ensures room { λ _. ⌜ Room (now (self .exit)) (now (rules .exit)) (now (entries .exit)) ⌝ }
-        ensures rest { λ _. ⌜ Rest (now (self .entry)) (now (self .exit)) (now (rules .entry)) (now (rules .exit)) (now (entries .entry)) (now (entries .exit)) ⌝ }
+        ensures answers_whether_the_content_has_a_place { λ r. ⌜ r ≡ answer (accepts (length (now (rules .entry))) (length (now (entries .entry))) (progress (now (self .entry)) (now (rules .entry)) (now (entries .entry))) content) ⌝ }
+        ensures takes_in_exactly_what_is_accepted { λ r. ⌜ progress (now (self .exit)) (now (rules .exit)) (now (entries .exit)) ≡ after (progress (now (self .entry)) (now (rules .entry)) (now (entries .entry))) (accepts (length (now (rules .entry))) (length (now (entries .entry))) (progress (now (self .entry)) (now (rules .entry)) (now (entries .entry))) content) ⌝ }
+        ensures counts_stay_within_the_memory { λ _. ⌜ Room (now (self .exit)) (now (rules .exit)) (now (entries .exit)) ⌝ }
+        ensures memory_after_the_counts_unchanged { λ _. ⌜ Rest (now (self .entry)) (now (self .exit)) (now (rules .entry)) (now (rules .exit)) (now (entries .entry)) (now (entries .exit)) ⌝ }
     {
         match content {
             Content::Heading(header) => self.begin(header),
@@ -97,11 +97,11 @@ impl Scan {
     }
 
     fn begin(&mut self, header: Header) -> Result<(), BookFault>
-        ensures answered { λ r. ⌜ r ≡ cond (now (self .entry) .begun) (Err HeaderMisplaced) (cond (good-header header) (Ok tt) (Err HeaderUnknown)) ⌝ }
-        ensures begun { λ r. ⌜ now (self .exit) .begun ≡ cond (isOk r) true (now (self .entry) .begun) ⌝ }
-        ensures policy { λ r. ⌜ now (self .exit) .policy ≡ cond (isOk r) (header .policy) (now (self .entry) .policy) ⌝ }
-        ensures ended { λ r. ⌜ now (self .exit) .ended ≡ now (self .entry) .ended ⌝ }
-        ensures draft { λ r. ⌜ now (self .exit) .draft ≡ now (self .entry) .draft ⌝ }
+        ensures accepts_a_good_header_that_comes_first { λ r. ⌜ r ≡ cond (now (self .entry) .begun) (Err HeaderMisplaced) (cond (good-header header) (Ok tt) (Err HeaderUnknown)) ⌝ }
+        ensures begun_once_accepted { λ r. ⌜ now (self .exit) .begun ≡ cond (isOk r) true (now (self .entry) .begun) ⌝ }
+        ensures policy_of_an_accepted_header { λ r. ⌜ now (self .exit) .policy ≡ cond (isOk r) (header .policy) (now (self .entry) .policy) ⌝ }
+        ensures ended_unchanged { λ r. ⌜ now (self .exit) .ended ≡ now (self .entry) .ended ⌝ }
+        ensures draft_unchanged { λ r. ⌜ now (self .exit) .draft ≡ now (self .entry) .draft ⌝ }
     {
         if self.begun {
             return Err(BookFault::HeaderMisplaced);

@@ -50,8 +50,8 @@ impl Loans {
 // Brings those of the first `count` loans that pass the test to the front, and answers how many they are.
 fn keep<T: Keep>(items: &mut [Loan], count: usize, test: &T) -> usize
     requires { ⌜ count ≤ length (now items) ⌝ }
-    ensures swept { λ r. ⌜ Filtered (passes (now (test .entry))) (take count (now (items .entry))) (take r (now (items .exit))) ⌝ }
-    ensures no_more { λ r. ⌜ r ≤ count ⌝ }
+    ensures keeps_exactly_those_that_pass { λ r. ⌜ Filtered (passes (now (test .entry))) (take count (now (items .entry))) (take r (now (items .exit))) ⌝ }
+    ensures answers_no_more_than_there_were { λ r. ⌜ r ≤ count ⌝ }
 {
     let mut front = 0;
     for i in 0..count {

@@ -10,7 +10,7 @@ use Rattle.book.proofs.contents.read_filler.Needs as need
 
 pub returns-then-b-ne0 : need.returns-then-b-ne0
 returns-then-b-ne0 c = record {
-  all-zero =
+  accepts-exactly-zeros =
       sym (cond-false _ _ _ (sym (c .loop-b .inv) ∙ (at-drop-more all-zero (c .args .body .now) (c .loop-b .b-index) 0 (c .loop-b-test .taken) ∙ and-left _ _ (ne-eqb _ 0 (c .if-b-ne0 .taken)))));
 }
 
@@ -20,4 +20,4 @@ loop-b-again c =
     sym (e ∙ ap (λ b. b && all-zero (drop (c .loop-b .b-index + 1) (c .args .body .now))) (eq-eqb _ 0 (c .if-b-ne0 .left))) ∙ c .loop-b .inv
 
 pub returns : need.returns
-returns c = record { all-zero = sym (cond-true _ _ _ (sym (c .loop-b .inv) ∙ at-drop-all all-zero (c .args .body .now) (c .loop-b .b-index) (c .loop-b-test .left))) }
+returns c = record { accepts-exactly-zeros = sym (cond-true _ _ _ (sym (c .loop-b .inv) ∙ at-drop-all all-zero (c .args .body .now) (c .loop-b .b-index) (c .loop-b-test .left))) }

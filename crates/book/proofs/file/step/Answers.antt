@@ -14,7 +14,7 @@ returns-in-Break-placed g c =
       record-taken-or-refused = rw (p .1, p .2)
           (step-denied (g .K·FileKind .reads) (g .K·Kind .meaning .lawful-test) (c .args .reader .now) (c .next .last .self) (c .args .scan .now) (c .admit .last .self) (c .args .rules .now) (c .admit .last .rules) (c .args .entries .now) (c .admit .last .entries)
           (piece-of (c .in-Continue-part .part)) (c .in-Continue-content .content) (c .admit .result)
-          (w .answer) (placed-ok _ _ _ (c .in-Continue-content .ensures tt .the-fault-with-its-place) ∙ c .read-content .ensures .what-the-record-says) (a .answered) (a .taken) (a .room) (a .rest) (w .moved ∙ ap (place-after (c .args .reader .now .place)) (w .answer)) (w .same) _ (c .in-Break-placed .ensures tt .the-fault-with-its-place));
+          (w .cuts-the-record-at-the-cursor) (placed-ok _ _ _ (c .in-Continue-content .ensures tt .the-fault-with-its-place) ∙ c .read-content .ensures .what-the-record-says) (a .answers-whether-the-content-has-a-place) (a .takes-in-exactly-what-is-accepted) (a .counts-stay-within-the-memory) (a .memory-after-the-counts-unchanged) (w .cursor-after-the-record ∙ ap (place-after (c .args .reader .now .place)) (w .cuts-the-record-at-the-cursor)) (w .bytes-unchanged) _ (c .in-Break-placed .ensures tt .the-fault-with-its-place));
     }
 
 pub returns : need.returns
@@ -24,5 +24,5 @@ returns g c =
     record {
       record-taken-or-refused = step-granted (g .K·FileKind .reads) (g .K·Kind .meaning .lawful-test) (c .args .reader .now) (c .next .last .self) (c .args .scan .now) (c .admit .last .self) (c .args .rules .now) (c .admit .last .rules) (c .args .entries .now) (c .admit .last .entries)
           (piece-of (c .in-Continue-part .part)) (c .in-Continue-content .content) (c .admit .result)
-          (w .answer) (placed-ok _ _ _ (c .in-Continue-content .ensures tt .the-fault-with-its-place) ∙ c .read-content .ensures .what-the-record-says) (a .answered) (a .taken) (a .room) (a .rest) (w .moved ∙ ap (place-after (c .args .reader .now .place)) (w .answer)) (w .same) _ (c .in-Continue-placed .ensures tt .the-fault-with-its-place);
+          (w .cuts-the-record-at-the-cursor) (placed-ok _ _ _ (c .in-Continue-content .ensures tt .the-fault-with-its-place) ∙ c .read-content .ensures .what-the-record-says) (a .answers-whether-the-content-has-a-place) (a .takes-in-exactly-what-is-accepted) (a .counts-stay-within-the-memory) (a .memory-after-the-counts-unchanged) (w .cursor-after-the-record ∙ ap (place-after (c .args .reader .now .place)) (w .cuts-the-record-at-the-cursor)) (w .bytes-unchanged) _ (c .in-Continue-placed .ensures tt .the-fault-with-its-place);
     }

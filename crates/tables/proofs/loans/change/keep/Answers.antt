@@ -25,6 +25,6 @@ returns g c =
     let i = c .loop-i .i in
     let at : i ≡ c .args .count = omega (arith, c .loop-i-test .left, c .loop-i .kept .i-end) in
     record {
-      swept = subst (λ n. Filtered (g .T·Keep .passes (c .args .test .now)) (take n (c .args .items .now)) (take (c .loop-i .front) (c .loop-i .items))) at (c .loop-i .inv .front);
-      no-more = omega (arith, c .loop-i .inv .within);
+      keeps-exactly-those-that-pass = subst (λ n. Filtered (g .T·Keep .passes (c .args .test .now)) (take n (c .args .items .now)) (take (c .loop-i .front) (c .loop-i .items))) at (c .loop-i .inv .front);
+      answers-no-more-than-there-were = omega (arith, c .loop-i .inv .within);
     }
