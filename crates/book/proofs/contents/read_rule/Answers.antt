@@ -2,28 +2,28 @@ use Rattle.std.proofs.lemmas.Result.{err_from_is_err_and}
 use Rattle.book.proofs.RuleReading.{test_refused, test_loose, rule_good, rule_bad}
 use Rattle.book.proofs.contents.read_rule.Goals as goal
 
-pub returns-in-err-test : goal.returns-in-err-test
-returns-in-err-test g c =
-    let p = err_from_is_err_and c.from-residual-in-err-test.result c.from-residual-in-err-test.ensures.1 in
+pub returns-in_err-test : goal.returns-in_err-test
+returns-in_err-test g c =
+    let p = err_from_is_err_and c.from_residual-in_err-test.result c.from_residual-in_err-test.ensures.1 in
     record {
       sets_and_a_test_that_ends_the_body = rw (p.1, p.2)
-          (test_refused g.K.FileKind.reads g.K.Kind.meaning.lawful_test _ _ _ c.in-ok-grants.grants c.in-ok-denies.denies c.in-ok-grants.ensures.set_and_what_follows c.in-ok-denies.ensures.set_and_what_follows _ c.in-err-test.ensures.the_bytes_alone_fix_the_answer);
+          (test_refused g.K.FileKind.reads g.K.Kind.meaning.lawful_test _ _ _ c.in_ok-grants.grants c.in_ok-denies.denies c.in_ok-grants.ensures.set_and_what_follows c.in_ok-denies.ensures.set_and_what_follows _ c.in_err-test.ensures.the_bytes_alone_fix_the_answer);
     }
 
 pub returns-then-used-rest : goal.returns-then-used-rest
 returns-then-used-rest g c = record {
   sets_and_a_test_that_ends_the_body =
-      test_loose g.K.FileKind.reads g.K.Kind.meaning.lawful_test _ _ _ c.in-ok-grants.grants c.in-ok-denies.denies c.in-ok-grants.ensures.set_and_what_follows c.in-ok-denies.ensures.set_and_what_follows _ _ c.in-ok-test.ensures.the_bytes_alone_fix_the_answer c.if-used-rest.true;
+      test_loose g.K.FileKind.reads g.K.Kind.meaning.lawful_test _ _ _ c.in_ok-grants.grants c.in_ok-denies.denies c.in_ok-grants.ensures.set_and_what_follows c.in_ok-denies.ensures.set_and_what_follows _ _ c.in_ok-test.ensures.the_bytes_alone_fix_the_answer c.if-used-rest.true;
 }
 
-pub returns-then-is-good-rule : goal.returns-then-is-good-rule
-returns-then-is-good-rule g c = record {
+pub returns-then-is_good_rule : goal.returns-then-is_good_rule
+returns-then-is_good_rule g c = record {
   sets_and_a_test_that_ends_the_body =
-      rule_good g.K.FileKind.reads g.K.Kind.meaning.lawful_test _ _ _ c.in-ok-grants.grants c.in-ok-denies.denies c.in-ok-grants.ensures.set_and_what_follows c.in-ok-denies.ensures.set_and_what_follows _ _ c.in-ok-test.ensures.the_bytes_alone_fix_the_answer _ _ c.from_le_bytes.ensures.is_the_set_of_that_number c.from-le-bytes-2.ensures.is_the_set_of_that_number c.if-used-rest.false c.if-is-good-rule.ensures.sets_apart_and_test_lawful;
+      rule_good g.K.FileKind.reads g.K.Kind.meaning.lawful_test _ _ _ c.in_ok-grants.grants c.in_ok-denies.denies c.in_ok-grants.ensures.set_and_what_follows c.in_ok-denies.ensures.set_and_what_follows _ _ c.in_ok-test.ensures.the_bytes_alone_fix_the_answer _ _ c.from_le_bytes.ensures.is_the_set_of_that_number c.from_le_bytes-2.ensures.is_the_set_of_that_number c.if-used-rest.false c.if-is_good_rule.ensures.sets_apart_and_test_lawful;
 }
 
-pub returns-else-is-good-rule : goal.returns-else-is-good-rule
-returns-else-is-good-rule g c = record {
+pub returns-else-is_good_rule : goal.returns-else-is_good_rule
+returns-else-is_good_rule g c = record {
   sets_and_a_test_that_ends_the_body =
-      rule_bad g.K.FileKind.reads g.K.Kind.meaning.lawful_test _ _ _ c.in-ok-grants.grants c.in-ok-denies.denies c.in-ok-grants.ensures.set_and_what_follows c.in-ok-denies.ensures.set_and_what_follows _ _ c.in-ok-test.ensures.the_bytes_alone_fix_the_answer _ _ c.from_le_bytes.ensures.is_the_set_of_that_number c.from-le-bytes-2.ensures.is_the_set_of_that_number c.if-used-rest.false c.if-is-good-rule.ensures.sets_apart_and_test_lawful;
+      rule_bad g.K.FileKind.reads g.K.Kind.meaning.lawful_test _ _ _ c.in_ok-grants.grants c.in_ok-denies.denies c.in_ok-grants.ensures.set_and_what_follows c.in_ok-denies.ensures.set_and_what_follows _ _ c.in_ok-test.ensures.the_bytes_alone_fix_the_answer _ _ c.from_le_bytes.ensures.is_the_set_of_that_number c.from_le_bytes-2.ensures.is_the_set_of_that_number c.if-used-rest.false c.if-is_good_rule.ensures.sets_apart_and_test_lawful;
 }

@@ -13,28 +13,28 @@ step-requires g c = c.loop-scan.invariant.room
 
 pub loop-scan-preserved : goal.loop-scan-preserved
 loop-scan-preserved g c =
-    (goes_on g.K.FileKind.reads g.K.Kind.meaning.lawful_test c.args.bytes.now c.loop-scan.reader c.step.new.reader c.loop-scan.scan c.step.new.scan c.args.rules.now c.loop-scan.rules c.step.new.rules c.args.entries.now c.loop-scan.entries c.step.new.entries c.in-ok-step.field-0
-    c.loop-scan-test.true (search rules) (search rules) c.loop-scan.invariant c.in-ok-step.ensures.record_taken_or_refused).0
+    (goes_on g.K.FileKind.reads g.K.Kind.meaning.lawful_test c.args.bytes.now c.loop-scan.reader c.step.new.reader c.loop-scan.scan c.step.new.scan c.args.rules.now c.loop-scan.rules c.step.new.rules c.args.entries.now c.loop-scan.entries c.step.new.entries c.in_ok-step.field-0
+    c.loop-scan-test.true (search rules) (search rules) c.loop-scan.invariant c.in_ok-step.ensures.record_taken_or_refused).0
 
 pub loop-scan-smaller : goal.loop-scan-smaller
 loop-scan-smaller g c =
     let m : c.loop-scan.reader.place < c.step.new.reader.place =
-    (goes_on g.K.FileKind.reads g.K.Kind.meaning.lawful_test c.args.bytes.now c.loop-scan.reader c.step.new.reader c.loop-scan.scan c.step.new.scan c.args.rules.now c.loop-scan.rules c.step.new.rules c.args.entries.now c.loop-scan.entries c.step.new.entries c.in-ok-step.field-0
-    c.loop-scan-test.true (search rules) (search rules) c.loop-scan.invariant c.in-ok-step.ensures.record_taken_or_refused).1 in
+    (goes_on g.K.FileKind.reads g.K.Kind.meaning.lawful_test c.args.bytes.now c.loop-scan.reader c.step.new.reader c.loop-scan.scan c.step.new.scan c.args.rules.now c.loop-scan.rules c.step.new.rules c.args.entries.now c.loop-scan.entries c.step.new.entries c.in_ok-step.field-0
+    c.loop-scan-test.true (search rules) (search rules) c.loop-scan.invariant c.in_ok-step.ensures.record_taken_or_refused).1 in
     let l = ap length (c.step.ensures.record_taken_or_refused.bytes ∙ c.loop-scan.invariant.same) in
     let w = c.step.new.reader.within in
     omega (arith, m, l, w)
 
-pub returns-in-err-step : goal.returns-in-err-step
-returns-in-err-step g c =
-    let p = err_from_is_err_and c.from-residual.result c.from-residual.ensures.1 in
+pub returns-in_err-step : goal.returns-in_err-step
+returns-in_err-step g c =
+    let p = err_from_is_err_and c.from_residual.result c.from_residual.ensures.1 in
     let l = ap length c.loop-scan.invariant.same in
     let w = c.loop-scan.reader.within in
     record {
       accepts_exactly_well_formed_files_and_refuses_at_the_first_faulty_record = rw (p.1, p.2)
           (told g.K.FileKind.reads g.K.Kind.meaning.lawful_test c.args.bytes.now c.args.rules.now c.args.entries.now c.step.new.rules c.step.new.entries _
           (refused g.K.FileKind.reads g.K.Kind.meaning.lawful_test c.args.bytes.now c.loop-scan.reader c.step.new.reader c.loop-scan.scan c.step.new.scan c.args.rules.now c.loop-scan.rules c.step.new.rules c.args.entries.now c.loop-scan.entries c.step.new.entries _
-          (omega (arith, l, w)) c.loop-scan-test.true c.loop-scan.invariant c.in-err-step.ensures.record_taken_or_refused));
+          (omega (arith, l, w)) c.loop-scan-test.true c.loop-scan.invariant c.in_err-step.ensures.record_taken_or_refused));
       reading_is_fixed_by_the_bytes_and_the_memory = exact g.K.FileKind.reads g.K.Kind.meaning.lawful_test;
     }
 

@@ -9,7 +9,7 @@ use Rattle.grader.proofs.running.run.Goals as goal
 
 pub loop-i-init : goal.loop-i-init
 loop-i-init g c =
-    let ready = c.in-ok-ready.ensures.refused_by_the_first_check_that_holds in
+    let ready = c.in_ok-ready.ensures.refused_by_the_first_check_that_holds in
     let b = book_of g.K.Kind.meaning c.args.book.now c.args.rules.now c.args.entries.now in (
       refl,
       same_calls_none c.args.log.now,
@@ -34,7 +34,7 @@ loop-i-preserved g c =
 
 pub returns : goal.returns
 returns g c =
-    let ready = c.in-ok-ready.ensures.refused_by_the_first_check_that_holds in
+    let ready = c.in_ok-ready.ensures.refused_by_the_first_check_that_holds in
     record {
       roles_and_loans_last_exactly_from_grant_to_first_ending = record {
         no_check_holds = ready.0;

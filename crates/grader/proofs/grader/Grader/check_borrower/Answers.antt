@@ -5,13 +5,13 @@ use Rattle.tables.specs.Loans.{standing}
 use Rattle.grader.proofs.Finding.{not_denied, free_passes, full_refuses}
 use Rattle.grader.proofs.grader.Grader.check_borrower.Goals as goal
 
-pub returns-then-is-full : goal.returns-then-is-full
-returns-then-is-full g c = record {
+pub returns-then-is_full : goal.returns-then-is_full
+returns-then-is_full g c = record {
   refused_by_the_first_check_that_holds =
       full_refuses _ _ c.args.senior.now c.args.self.now _ c.args.borrower c.args.role
       (not_from_Decides c.has.result c.has.ensures.tells_whether_such_a_loan_stands c.if-has.false)
-      (not_denied _ _ c.args.senior.now c.args.self.now _ _ c.ruling-ruling.ensures.rules_by_what_is_lent _ _ c.in-default.ensures.gives_the_lowest_denying_rule)
-      (leb-true 32 (length (standing c.args.self.now.loans)) (sym c.is_full.ensures.tells_whether_32_stand ∙ c.if-is-full.true));
+      (not_denied _ _ c.args.senior.now c.args.self.now _ _ c.ruling-ruling.ensures.rules_by_what_is_lent _ _ c.in_default.ensures.gives_the_lowest_denying_rule)
+      (leb-true 32 (length (standing c.args.self.now.loans)) (sym c.is_full.ensures.tells_whether_32_stand ∙ c.if-is_full.true));
 }
 
 pub returns : goal.returns
@@ -19,6 +19,6 @@ returns g c = record {
   refused_by_the_first_check_that_holds =
       free_passes _ _ c.args.senior.now c.args.self.now _ c.args.borrower c.args.role
       (not_from_Decides c.has.result c.has.ensures.tells_whether_such_a_loan_stands c.if-has.false)
-      (not_denied _ _ c.args.senior.now c.args.self.now _ _ c.ruling-ruling.ensures.rules_by_what_is_lent _ _ c.in-default.ensures.gives_the_lowest_denying_rule)
-      (leb-false 32 (length (standing c.args.self.now.loans)) (sym c.is_full.ensures.tells_whether_32_stand ∙ c.if-is-full.false));
+      (not_denied _ _ c.args.senior.now c.args.self.now _ _ c.ruling-ruling.ensures.rules_by_what_is_lent _ _ c.in_default.ensures.gives_the_lowest_denying_rule)
+      (leb-false 32 (length (standing c.args.self.now.loans)) (sym c.is_full.ensures.tells_whether_32_stand ∙ c.if-is_full.false));
 }

@@ -4,17 +4,17 @@ use Rattle.grader.specs.Graders.{book_of}
 use Rattle.grader.proofs.Finding.{recall_not_entitled, recall_unlent}
 use Rattle.grader.proofs.grader.Grader.check_recall.Goals as goal
 
-pub returns-in-err-check-entitled : goal.returns-in-err-check-entitled
-returns-in-err-check-entitled g c =
-    let q = err_from_is_err_and c.from-residual-in-err-check-entitled.result c.from-residual-in-err-check-entitled.ensures.1 in
+pub returns-in_err-check_entitled : goal.returns-in_err-check_entitled
+returns-in_err-check_entitled g c =
+    let q = err_from_is_err_and c.from_residual-in_err-check_entitled.result c.from_residual-in_err-check_entitled.ensures.1 in
     rw (q.1, q.2) (record {
       refused_by_the_first_check_that_holds =
           recall_not_entitled
           (book_of g.K.Kind.meaning c.args.book.now c.args.rules.now c.args.entries.now) (g.P.Policy.judge c.args.self.now.policy)
-          c.args.senior.now c.args.self.now c.args.register.now c.args.panel c.in-ok-seat.seat c.in-ok-seat.ensures.finds_the_seat
-          c.args.role c.in-ok-check-role.ensures.stops_where_there_is_no_such_role
-          c.args.borrower c.in-ok-check-person.ensures.stops_where_there_is_no_such_person
-          c.in-err-check-entitled.field-0.0 c.in-err-check-entitled.ensures.refused_unless_rules_entitle;
+          c.args.senior.now c.args.self.now c.args.register.now c.args.panel c.in_ok-seat.seat c.in_ok-seat.ensures.finds_the_seat
+          c.args.role c.in_ok-check_role.ensures.stops_where_there_is_no_such_role
+          c.args.borrower c.in_ok-check_person.ensures.stops_where_there_is_no_such_person
+          c.in_err-check_entitled.field-0.0 c.in_err-check_entitled.ensures.refused_unless_rules_entitle;
     })
 
 pub returns-then-not-has : goal.returns-then-not-has
@@ -22,9 +22,9 @@ returns-then-not-has g c = record {
   refused_by_the_first_check_that_holds =
       recall_unlent
       (book_of g.K.Kind.meaning c.args.book.now c.args.rules.now c.args.entries.now) (g.P.Policy.judge c.args.self.now.policy)
-      c.args.senior.now c.args.self.now c.args.register.now c.args.panel c.in-ok-seat.seat c.in-ok-seat.ensures.finds_the_seat
-      c.args.role c.in-ok-check-role.ensures.stops_where_there_is_no_such_role
-      c.args.borrower c.in-ok-check-person.ensures.stops_where_there_is_no_such_person
-      c.in-ok-check-entitled.ensures.refused_unless_rules_entitle
+      c.args.senior.now c.args.self.now c.args.register.now c.args.panel c.in_ok-seat.seat c.in_ok-seat.ensures.finds_the_seat
+      c.args.role c.in_ok-check_role.ensures.stops_where_there_is_no_such_role
+      c.args.borrower c.in_ok-check_person.ensures.stops_where_there_is_no_such_person
+      c.in_ok-check_entitled.ensures.refused_unless_rules_entitle
       (not_from_Decides c.has.result c.has.ensures.tells_whether_such_a_loan_stands c.if-not-has.true);
 }

@@ -10,11 +10,11 @@ use Rattle.grader.specs.Graders.{held}
 use Rattle.logs.specs.Steps.{Performed}
 use Rattle.grader.proofs.grader.Grader.close.Goals as goal
 
-pub returns-in-err-seat-at : goal.returns-in-err-seat-at
-returns-in-err-seat-at g c =
-    let q = err_from_is_err_and c.from-residual.result c.from-residual.ensures.1 in
+pub returns-in_err-seat_at : goal.returns-in_err-seat_at
+returns-in_err-seat_at g c =
+    let q = err_from_is_err_and c.from_residual.result c.from_residual.ensures.1 in
     rw (q.1, q.2) (
-    let found = c.in-err-seat-at.ensures.finds_the_seat in
+    let found = c.in_err-seat_at.ensures.finds_the_seat in
     record {
       policy_and_table_stay = (refl, refl);
       refused_by_its_first_check_that_holds_else_done = λ p vs. refused p _ _ _ _ found;
@@ -24,7 +24,7 @@ returns-in-err-seat-at g c =
 pub returns : goal.returns
 returns g c =
     let old = c.args.self.now in
-    let passed = c.in-ok-seat-at.ensures.finds_the_seat.0 in
+    let passed = c.in_ok-seat_at.ensures.finds_the_seat.0 in
     let there = panel_there old.panels.seats c.args.panel old.panels.long (λ above. passed.0 _ (refl, above)) in
     let performed : (p : Plant g.row.K-Value.Denot g.row.K-Test.Denot) (vs : List g.row.K-Value.Denot) → Performed p old.senior (held old vs) (Close c.args.panel) Done (with_seats p old.senior (held old vs) c.put.new.self.seats) =
     λ p vs. done p old.senior (held old vs) (Close c.args.panel) _ refl passed

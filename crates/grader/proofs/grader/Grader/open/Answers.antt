@@ -10,11 +10,11 @@ use Rattle.grader.specs.Graders.{held}
 use Rattle.logs.specs.Steps.{Performed}
 use Rattle.grader.proofs.grader.Grader.open.Goals as goal
 
-pub returns-in-err-check-open : goal.returns-in-err-check-open
-returns-in-err-check-open g c =
-    let q = err_from_is_err_and c.from-residual.result c.from-residual.ensures.1 in
+pub returns-in_err-check_open : goal.returns-in_err-check_open
+returns-in_err-check_open g c =
+    let q = err_from_is_err_and c.from_residual.result c.from_residual.ensures.1 in
     rw (q.1, q.2) (
-    let found = c.in-err-check-open.ensures.refused_by_the_first_check_that_holds in
+    let found = c.in_err-check_open.ensures.refused_by_the_first_check_that_holds in
     record {
       policy_and_table_stay = (refl, refl);
       refused_by_its_first_check_that_holds_else_done = λ p. refused p _ _ _ _ (found p.book p.judge _);
@@ -24,7 +24,7 @@ returns-in-err-check-open g c =
 pub returns : goal.returns
 returns g c =
     let old = c.args.self.now in
-    let passes = c.in-ok-check-open.ensures.refused_by_the_first_check_that_holds in
+    let passes = c.in_ok-check_open.ensures.refused_by_the_first_check_that_holds in
     let performed : (p : Plant g.row.K-Value.Denot g.row.K-Test.Denot) → Performed p old.senior (held old c.args.register.now) (Open c.args.panel c.args.person) Done (with_seats p old.senior (held old c.args.register.now) c.put.new.self.seats) =
     λ p.
     let passed = (passes p.book p.judge old.senior).0 in

@@ -5,11 +5,11 @@ use Rattle.grader.proofs.CheckLaws.{refused, done}
 use Rattle.grader.proofs.Settling.{recalled}
 use Rattle.grader.proofs.grader.Grader.recall.Goals as goal
 
-pub returns-in-err-check-recall : goal.returns-in-err-check-recall
-returns-in-err-check-recall g c =
-    let q = err_from_is_err_and c.from-residual.result c.from-residual.ensures.1 in
+pub returns-in_err-check_recall : goal.returns-in_err-check_recall
+returns-in_err-check_recall g c =
+    let q = err_from_is_err_and c.from_residual.result c.from_residual.ensures.1 in
     rw (q.1, q.2) (
-    let found = c.in-err-check-recall.ensures.refused_by_the_first_check_that_holds in
+    let found = c.in_err-check_recall.ensures.refused_by_the_first_check_that_holds in
     record {
       policy_and_table_stay = (refl, refl);
       refused_by_its_first_check_that_holds_else_done = λ first start. refused _ _ _ _ _ found;
@@ -18,7 +18,7 @@ returns-in-err-check-recall g c =
 
 pub returns : goal.returns
 returns g c =
-    let passed = c.in-ok-check-recall.ensures.refused_by_the_first_check_that_holds.0 in
+    let passed = c.in_ok-check_recall.ensures.refused_by_the_first_check_that_holds.0 in
     let ended = c.retain.ensures.keeps_exactly_the_loans_that_pass in
     let settled = c.settle.ensures.ends_what_has_no_grounds in
     record {

@@ -6,11 +6,11 @@ use Rattle.grader.proofs.CheckLaws.{refused}
 use Rattle.grader.proofs.Asking.{told_roles}
 use Rattle.grader.proofs.grader.Grader.roles.Goals as goal
 
-pub returns-in-err-check-panel : goal.returns-in-err-check-panel
-returns-in-err-check-panel g c =
-    let q = err_from_is_err_and c.from-residual.result c.from-residual.ensures.1 in
+pub returns-in_err-check_panel : goal.returns-in_err-check_panel
+returns-in_err-check_panel g c =
+    let q = err_from_is_err_and c.from_residual.result c.from_residual.ensures.1 in
     rw (q.1, q.2) (
-    let found = c.in-err-check-panel.ensures.stops_where_there_is_no_such_panel in
+    let found = c.in_err-check_panel.ensures.stops_where_there_is_no_such_panel in
     record {
       refused_by_its_first_check_that_holds_else_answered = λ p vs. refused p _ _ _ _ (inl found);
       carries_every_log_on = λ p vs. carries p _ _ _ _ _ (refused p _ _ _ _ (inl found));
@@ -18,7 +18,7 @@ returns-in-err-check-panel g c =
 
 pub returns-in-Some : goal.returns-in-Some
 returns-in-Some g c =
-    let there = c.in-ok-check-panel.ensures.stops_where_there_is_no_such_panel in
+    let there = c.in_ok-check_panel.ensures.stops_where_there_is_no_such_panel in
     let seat = c.in-Some.ensures.the_seat_there in
     record {
       refused_by_its_first_check_that_holds_else_answered = λ p vs. told_roles p _ _ _ _ there (λ role. ap (λ s. active_of s role) seat);
@@ -27,7 +27,7 @@ returns-in-Some g c =
 
 pub returns-in-None : goal.returns-in-None
 returns-in-None g c =
-    let there = c.in-ok-check-panel.ensures.stops_where_there_is_no_such_panel in
+    let there = c.in_ok-check_panel.ensures.stops_where_there_is_no_such_panel in
     let closed = c.in-None.ensures.the_seat_there in
     let empty = c.new.ensures.no_number_is_a_member in
     record {

@@ -9,11 +9,11 @@ use Rattle.logs.specs.Steps.{Performed}
 use Rattle.grader.specs.Graders.{plant, book_of, held}
 use Rattle.grader.proofs.grader.Grader.take.Goals as goal
 
-pub returns-in-err-seat : goal.returns-in-err-seat
-returns-in-err-seat g c =
-    let q = err_from_is_err_and c.from-residual.result c.from-residual.ensures.1 in
+pub returns-in_err-seat : goal.returns-in_err-seat
+returns-in_err-seat g c =
+    let q = err_from_is_err_and c.from_residual.result c.from_residual.ensures.1 in
     rw (q.1, q.2) (
-    let found = c.in-err-seat.ensures.refused_by_the_first_check_that_holds in
+    let found = c.in_err-seat.ensures.refused_by_the_first_check_that_holds in
     record {
       policy_and_table_stay = (refl, refl);
       refused_by_its_first_check_that_holds_else_done = λ first start. refused _ _ _ _ _ found;
@@ -24,7 +24,7 @@ pub returns : goal.returns
 returns g c =
     let old = c.args.self.now in
     let vs = c.args.register.now in
-    let found = c.in-ok-seat.ensures.refused_by_the_first_check_that_holds in
+    let found = c.in_ok-seat.ensures.refused_by_the_first_check_that_holds in
     let there = panel_there old.panels.seats c.args.panel old.panels.long (λ above. found.0.0 _ (refl, above)) in
     let small = role_small c.args.role (λ above. found.0.1.1.0 _ (refl, above)) in
     let performed : (first : List g.row.K-Value.Denot) (start : ℕ) → Performed (plant (book_of g.K.Kind.meaning c.args.book.now c.args.rules.now c.args.entries.now) (g.P.Policy.judge old.policy) first start) old.senior (held old vs) (Take c.args.panel c.args.role) Done (with_seats (plant (book_of g.K.Kind.meaning c.args.book.now c.args.rules.now c.args.entries.now) (g.P.Policy.judge old.policy) first start) old.senior (held old vs) c.put.new.self.seats) =

@@ -17,7 +17,7 @@ returns-then-minute-self g c =
 pub returns : goal.returns
 returns g c =
     let within_bounds : (c.args.minute < c.args.self.now.clock) ⊎ (4000000000 < c.args.minute) → ⊥ =
-    λ w. elim w [ inl early ↦ omega (arith, c.if-minute-self.false) | inr late ↦ omega (arith, c.if-minute-gt-LAST-MINUTE.false) ] in
+    λ w. elim w [ inl early ↦ omega (arith, c.if-minute-self.false) | inr late ↦ omega (arith, c.if-minute-gt-LAST_MINUTE.false) ] in
     let settled = c.settle.ensures.ends_what_has_no_grounds in
     record {
       policy_and_table_stay = settled.stays;

@@ -7,27 +7,27 @@ use Rattle.rules.specs.Policies.{local_denial}
 use Rattle.rules.proofs.LocalLaws.{apart_from, apart_not_below}
 use Rattle.rules.specs.PolicyLaws.{local_decides}
 use Rattle.rules.proofs.local_denial.LocalDenialPolicy.says.Goals as goal
-use Rattle.rules.proofs.local_denial.LocalDenialPolicy.says.Goals.{else-contains-via-then-contains+then-not-contains+else-above-none, else-contains-via-then-contains+else-not-contains, else-contains-via-else-contains}
+use Rattle.rules.proofs.local_denial.LocalDenialPolicy.says.Goals.{else-contains-via-then-contains+then-not-contains+else-above_none, else-contains-via-then-contains+else-not-contains, else-contains-via-else-contains}
 
-pub returns-then-above-none : goal.returns-then-above-none
-returns-then-above-none c = record {
+pub returns-then-above_none : goal.returns-then-above_none
+returns-then-above_none c = record {
   says_what_it_means = sym ((local_decides c.args.granting c.args.denying c.args.senior.now).1 (
     c.loop-i.i,
     sym c.if-contains.ensures.tells_whether_it_is_a_member,
-    apart_from c.args.denying c.args.senior.now c.below-some-below.result c.loop-i.i
-        c.below-some-below.ensures.members_are_the_rules_junior_to_a_denying_one
+    apart_from c.args.denying c.args.senior.now c.below_some-below.result c.loop-i.i
+        c.below_some-below.ensures.members_are_the_rules_junior_to_a_denying_one
         (sym c.if-not-contains.ensures.tells_whether_it_is_a_member)
-        (c.above_none.ensures.tells_whether_it_is_senior_to_no_denying_rule.0 c.if-above-none.true),
+        (c.above_none.ensures.tells_whether_it_is_senior_to_no_denying_rule.0 c.if-above_none.true),
   ));
 }
 
 pub loop-i-preserved : goal.loop-i-preserved
 loop-i-preserved c = below_more _ _ c.loop-i.invariant (elim c.else-contains.branch [
-  | else-contains-via-then-contains+then-not-contains+else-above-none w ↦
-      λ held apart. not_from_Decides w.above_none.result w.above_none.ensures.tells_whether_it_is_senior_to_no_denying_rule w.if-above-none.false (λ j denies. (apart j denies).0)
+  | else-contains-via-then-contains+then-not-contains+else-above_none w ↦
+      λ held apart. not_from_Decides w.above_none.result w.above_none.ensures.tells_whether_it_is_senior_to_no_denying_rule w.if-above_none.false (λ j denies. (apart j denies).0)
   | else-contains-via-then-contains+else-not-contains w ↦
-      λ held apart. apart_not_below c.args.denying c.args.senior.now c.below-some-below.result c.loop-i.i
-      c.below-some-below.ensures.members_are_the_rules_junior_to_a_denying_one
+      λ held apart. apart_not_below c.args.denying c.args.senior.now c.below_some-below.result c.loop-i.i
+      c.below_some-below.ensures.members_are_the_rules_junior_to_a_denying_one
       (sym w.if-not-contains.ensures.tells_whether_it_is_a_member) apart
   | else-contains-via-else-contains w ↦
       λ held apart. both_ways (member c.args.granting c.loop-i.i) (sym w.if-contains.ensures.tells_whether_it_is_a_member) held

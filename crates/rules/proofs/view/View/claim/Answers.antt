@@ -6,7 +6,7 @@ use Rattle.rules.specs.Rules.{seen}
 use Rattle.rules.proofs.Places.{found_here, found_within}
 use Rattle.rules.proofs.RuleLaws.{grants_from, grants_not, denies_not}
 use Rattle.rules.proofs.view.View.claim.Goals as goal
-use Rattle.rules.proofs.view.View.claim.Goals.{then-not-is-disjoint, else-not-is-disjoint, then-contains, else-contains}
+use Rattle.rules.proofs.view.View.claim.Goals.{then-not-is_disjoint, else-not-is_disjoint, then-contains, else-contains}
 
 pub loop-i-init : goal.loop-i-init
 loop-i-init g c = (gathered_none _ c.new-granting.result c.new-granting.ensures.no_number_is_a_member, gathered_none _ c.new-denying.result c.new-denying.ensures.no_number_is_a_member)
@@ -28,14 +28,14 @@ loop-i-preserved g c =
     let met = sym c.if-not-contains.ensures.tells_whether_it_is_a_member in
     let are = c.sources-sources.ensures.members_are_the_role_and_what_leads_to_it in
     let apart = c.is_disjoint.ensures.tells_whether_no_member_is_in_the_other in (
-      elim c.if-not-is-disjoint.branch [
-        | then-not-is-disjoint w ↦
+      elim c.if-not-is_disjoint.branch [
+        | then-not-is_disjoint w ↦
             gathered_with _ _ _ _ _ w.granting-is small
-            (met, grants_from b c.args.role c.args.minute i rule c.sources-sources.result c.is_disjoint.result found are w.if-not-is-disjoint.true apart)
+            (met, grants_from b c.args.role c.args.minute i rule c.sources-sources.result c.is_disjoint.result found are w.if-not-is_disjoint.true apart)
             w.with-granting.ensures.members_are_those_before_and_this_one c.loop-i.invariant.0
-        | else-not-is-disjoint w ↦
+        | else-not-is_disjoint w ↦
             gathered_same _ _ _ _ w.granting-is
-            (λ x. grants_not b c.args.role c.args.minute i rule c.sources-sources.result c.is_disjoint.result found are w.if-not-is-disjoint.false apart x.1)
+            (λ x. grants_not b c.args.role c.args.minute i rule c.sources-sources.result c.is_disjoint.result found are w.if-not-is_disjoint.false apart x.1)
             c.loop-i.invariant.0
       ],
       elim c.if-contains.branch [

@@ -4,7 +4,7 @@ use Rattle.sets.proofs.Gathering.{gathered_none, gathered_same, gathered_with}
 use Rattle.rules.specs.Rules.{seen}
 use Rattle.rules.proofs.VerdictLaws.{over_is, over_allowed}
 use Rattle.rules.proofs.view.View.entitled_roles.Goals as goal
-use Rattle.rules.proofs.view.View.entitled_roles.Goals.{then-is-allowed, else-is-allowed}
+use Rattle.rules.proofs.view.View.entitled_roles.Goals.{then-is_allowed, else-is_allowed}
 
 pub loop-role-init : goal.loop-role-init
 loop-role-init g c = gathered_none _ c.new-roles.result c.new-roles.ensures.no_number_is_a_member
@@ -12,18 +12,18 @@ loop-role-init g c = gathered_none _ c.new-roles.result c.new-roles.ensures.no_n
 pub loop-role-preserved : goal.loop-role-preserved
 loop-role-preserved g c =
     let told = Decides-at _ _ c.is_allowed.ensures.what_the_policy_says
-    (over_is (seen g.K.Kind.meaning c.args.self.now) (g.P.Policy.judge c.args.policy.now) c.met-by-met.result c.seniority-senior.result c.loop-role.role c.args.minute
+    (over_is (seen g.K.Kind.meaning c.args.self.now) (g.P.Policy.judge c.args.policy.now) c.met_by-met.result c.seniority-senior.result c.loop-role.role c.args.minute
     c.claim.result.granting c.claim.result.denying c.claim.ensures.granting_exactly_the_met_rules_that_grant_or_lead c.claim.ensures.denying_exactly_the_met_rules_that_deny) in
-    elim c.if-is-allowed.branch [
-      | then-is-allowed w ↦ gathered_with _ _ _ _ _ w.roles-is c.loop-role-test.true (told.0 w.if-is-allowed.true) w.with-roles.ensures.members_are_those_before_and_this_one c.loop-role.invariant
-      | else-is-allowed w ↦ gathered_same _ _ _ _ w.roles-is (not_from_Decides c.is_allowed.result told w.if-is-allowed.false) c.loop-role.invariant
+    elim c.if-is_allowed.branch [
+      | then-is_allowed w ↦ gathered_with _ _ _ _ _ w.roles-is c.loop-role-test.true (told.0 w.if-is_allowed.true) w.with-roles.ensures.members_are_those_before_and_this_one c.loop-role.invariant
+      | else-is_allowed w ↦ gathered_same _ _ _ _ w.roles-is (not_from_Decides c.is_allowed.result told w.if-is_allowed.false) c.loop-role.invariant
     ]
 
 pub returns : goal.returns
 returns g c = record {
   members_are_exactly_the_roles_to_which_rules_entitle = λ role.
-      let same = over_allowed (seen g.K.Kind.meaning c.args.self.now) (g.P.Policy.judge c.args.policy.now) c.met-by-met.result c.seniority-senior.result role c.args.minute
-      c.args.value c.met-by-met.ensures.members_are_exactly_the_rules_met c.seniority-senior.ensures.senior_exactly_when_its_test_implies_the_other in
+      let same = over_allowed (seen g.K.Kind.meaning c.args.self.now) (g.P.Policy.judge c.args.policy.now) c.met_by-met.result c.seniority-senior.result role c.args.minute
+      c.args.value c.met_by-met.ensures.members_are_exactly_the_rules_met c.seniority-senior.ensures.senior_exactly_when_its_test_implies_the_other in
       Decides-like _
       (λ w. let lt = w.0 in (omega (arith, c.loop-role.auto.role-end), same.0 w.1))
       (λ w. let lt = w.0 in (omega (arith, c.loop-role-test.false), same.1 w.1))

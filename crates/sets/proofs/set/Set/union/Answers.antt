@@ -3,8 +3,8 @@ use Rattle.sets.specs.Members.{member}
 use Rattle.sets.proofs.BitLaws.{bit-or}
 use Rattle.sets.proofs.set.Set.union.Goals as goal
 
-pub invariant-of-result : goal.invariant-of-result
-invariant-of-result c = (or_lt 64 c.args.self.bits c.args.other.bits c.args.self.small c.args.other.small, tt)
+pub invariant_of-result : goal.invariant_of-result
+invariant_of-result c = record { small = or_lt 64 c.args.self.bits c.args.other.bits c.args.self.small c.args.other.small }
 
 pub returns : goal.returns
 unfolding member

@@ -6,8 +6,8 @@ use Rattle.sets.proofs.BitLaws.{bit-and, bit_not, bit-one}
 use Rattle.sets.proofs.MemberLaws.{member_below}
 use Rattle.sets.proofs.set.Set.without.Goals as goal
 
-pub invariant-of-result : goal.invariant-of-result
-invariant-of-result c = (lt_of_le_of_lt (and_le_l c.args.self.bits _) c.args.self.small, tt)
+pub invariant_of-result : goal.invariant_of-result
+invariant_of-result c = record { small = lt_of_le_of_lt (and_le_l c.args.self.bits _) c.args.self.small }
 
 pub returns-then-i-ge64 : goal.returns-then-i-ge64
 returns-then-i-ge64 c = record {

@@ -6,14 +6,14 @@ use Rattle.tables.specs.Loans.{Lent}
 use Rattle.tables.proofs.LoanLaws.{read_at}
 use Rattle.tables.proofs.loans.Loans.has.Goals as goal
 
-pub returns-then-is-of : goal.returns-then-is-of
-returns-then-is-of c = record {
+pub returns-then-is_of : goal.returns-then-is_of
+returns-then-is_of c = record {
   tells_whether_such_a_loan_stands = (
     (λ _. record {
       place = c.loop-loan.loan-index;
       loan = _;
       found = read_at c.standing-loan-items.result.now _ c.loop-loan.loan-index _ c.standing-loan-items.ensures.those_that_stand c.loop-loan-test.true;
-      lent = c.is_of.ensures.tells_whether_it_is_lent.0 c.if-is-of.true;
+      lent = c.is_of.ensures.tells_whether_it_is_lent.0 c.if-is_of.true;
     }),
     (λ _. refl),
   );
@@ -22,7 +22,7 @@ returns-then-is-of c = record {
 pub loop-loan-preserved : goal.loop-loan-preserved
 loop-loan-preserved c = below_more _ _ c.loop-loan.invariant (λ x found lent.
     let here = read_at c.standing-loan-items.result.now _ c.loop-loan.loan-index _ c.standing-loan-items.ensures.those_that_stand c.loop-loan-test.true in
-    not_from_Decides c.is_of.result c.is_of.ensures.tells_whether_it_is_lent c.if-is-of.false
+    not_from_Decides c.is_of.result c.is_of.ensures.tells_whether_it_is_lent c.if-is_of.false
     (subst (λ z. Lent z c.args.person c.args.role) (found_one _ c.loop-loan.loan-index x _ found here) lent))
 
 pub returns : goal.returns

@@ -4,9 +4,9 @@ use Rattle.sets.specs.Members.{member}
 use Rattle.sets.proofs.MemberLaws.{some-member}
 use Rattle.tables.proofs.ruling.Ruling.lets_stand.Goals as goal
 
-pub returns-then-not-is-empty : goal.returns-then-not-is-empty
-returns-then-not-is-empty g c =
-    let w = some-member c.claim.result.denying (sym c.if-not-is-empty.ensures.answers_whether_it_is_empty) in
+pub returns-then-not-is_empty : goal.returns-then-not-is_empty
+returns-then-not-is_empty g c =
+    let w = some-member c.claim.result.denying (sym c.if-not-is_empty.ensures.answers_whether_it_is_empty) in
     record {
       tells_whether_the_loan_may_stand = (
         (λ e. absurd (both_ways false refl e)),
@@ -17,7 +17,7 @@ returns-then-not-is-empty g c =
 pub returns : goal.returns
 returns g c =
     let denies = c.claim.ensures.denying_exactly_the_met_rules_that_deny in
-    let none = c.is_empty.ensures.tells_whether_no_number_is_a_member.0 c.if-not-is-empty.false in
+    let none = c.is_empty.ensures.tells_whether_no_number_is_a_member.0 c.if-not-is_empty.false in
     let early : c.args.self.now.clock < c.args.loan.due = omega (arith, c.if-from-loan.false, c.from.ensures) in
     record {
       tells_whether_the_loan_may_stand = (

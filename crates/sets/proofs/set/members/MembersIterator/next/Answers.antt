@@ -3,8 +3,8 @@ use Rattle.sets.proofs.MemberLaws.{member_below}
 use Rattle.sets.proofs.set.members.MembersIterator.next.Goals as goal
 use Rattle.std.proofs.iter.Next.{firm}
 
-pub overflow-add-self : goal.overflow-add-self
-overflow-add-self c = omega (arith, member_below c.args.self.now.set c.in-Some.i c.in-Some.ensures.gives_the_lowest_member_from_there.held)
+pub overflow_add-self : goal.overflow_add-self
+overflow_add-self c = omega (arith, member_below c.args.self.now.set c.in-Some.i c.in-Some.ensures.gives_the_lowest_member_from_there.held)
 
 pub returns-in-Some : goal.returns-in-Some
 returns-in-Some c =
