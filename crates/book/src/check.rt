@@ -10,7 +10,7 @@ const LAST_MINUTE: u32 = 4_000_000_000;
 const LONGEST: u32 = 100_000_000;
 
 pub(crate) fn is_good_rule<K: Kind>(rule: Rule<K::Test>) -> bool
-    ensures sets_apart_and_test_lawful { result ≡ good_rule meaning.lawful_test rule }
+    ensures sets_apart_and_test_lawful { result ≡ good_rule K.meaning.lawful_test rule }
 {
     rule.grants.is_disjoint(rule.denies) && K::lawful_test(rule.test)
 }

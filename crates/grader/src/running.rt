@@ -16,7 +16,7 @@ pub fn run<'m, K: Kind, P: Policy + Drop>(
     start: u32,
     log: &mut [Exchange<K::Value>],
 ) -> Result<Grader<P>, Refusal>
-    ensures roles_and_loans_last_exactly_from_grant_to_first_ending { Ran (over meaning (judge policy) book.now rules.now entries.now register.old start) log.old result log.new register.new }
+    ensures roles_and_loans_last_exactly_from_grant_to_first_ending { Ran (over K.meaning (P.judge policy) book.now rules.now entries.now register.old start) log.old result log.new register.new }
 {
     let ready = Ready::check::<K>(book, policy, register, start)?;
     let mut grader = ready.build::<K>(book, rules, entries);

@@ -17,6 +17,7 @@ use Rattle.std.specs.List.{slice_get}
 use Rattle.sets.specs.declared.set.Set.{Set}
 use Rattle.sets.specs.Members.{member}
 use Rattle.kinds.specs.Kinds.{Meaning, Implied, meets}
+use Rattle.kinds.specs.declared.kind.Kind.{Ghosts}
 use Rattle.rules.specs.declared.entry.Entry.{Entry}
 use Rattle.rules.specs.declared.rule.Rule.{Rule}
 use Rattle.rules.specs.declared.seniority.Seniority.{Seniority}
@@ -31,7 +32,7 @@ pub record Book (V S : Type 0) : Type 0 where
   pub entries : List Entry
 
 -- the rulebook that a view reads
-abbrev pub seen : {K V S : Type 0} → Meaning V S → View K V S → Book V S
+abbrev pub seen : {K V S : Type 0} {g : Ghosts K V S} → Meaning V S → View K V S g → Book V S
 seen m view = record { meaning = m; rules = view.rules.now; entries = view.entries.now }
 
 module _ {V S : Type 0} (b : Book V S) where

@@ -32,7 +32,7 @@ impl Draft {
         memory: &mut [Rule<K::Test>],
         rule: Rule<K::Test>,
     ) -> Result<(), Fault>
-        ensures added_or_untouched { Added (good_rule meaning.lawful_test rule) 64 memory.old rule self.old.rules self.new.rules memory.new result }
+        ensures added_or_untouched { Added (good_rule K.meaning.lawful_test rule) 64 memory.old rule self.old.rules self.new.rules memory.new result }
         ensures entries_stay { self.new.entries ≡ self.old.entries }
     {
         if !is_good_rule::<K>(rule) {

@@ -28,8 +28,8 @@ impl<P: Policy> Grader<P> {
         minutes: u16,
     ) -> Result<(), Refusal>
         ensures policy_and_table_stay { Keeps self.old self.new }
-        ensures refused_by_its_first_check_that_holds_else_done { (first : List K.Value) (start : ℕ) → Does (over meaning (judge self.old.policy) book.now rules.now entries.now first start) self.old register.now (Lend panel borrower role minutes) (reply result) self.new register.now }
-        ensures carries_every_log_on { (first : List K.Value) (start : ℕ) → Carries (over meaning (judge self.old.policy) book.now rules.now entries.now first start) self.old register.now (Lend panel borrower role minutes) (reply result) self.new register.now }
+        ensures refused_by_its_first_check_that_holds_else_done { (first : List K.Value) (start : ℕ) → Does (over K.meaning (P.judge self.old.policy) book.now rules.now entries.now first start) self.old register.now (Lend panel borrower role minutes) (reply result) self.new register.now }
+        ensures carries_every_log_on { (first : List K.Value) (start : ℕ) → Carries (over K.meaning (P.judge self.old.policy) book.now rules.now entries.now first start) self.old register.now (Lend panel borrower role minutes) (reply result) self.new register.now }
     {
         let senior = self.senior;
         let lender = self.check_lend::<K>(
@@ -58,7 +58,7 @@ impl<P: Policy> Grader<P> {
         role: u8,
         minutes: u16,
     ) -> Result<u16, Refusal>
-        ensures refused_by_the_first_check_that_holds { Found (checks (facing (book_of meaning book.now rules.now entries.now) (judge self.now.policy) senior.now self.now register.now) (Lend panel borrower role minutes)) (Lending (book_of meaning book.now rules.now entries.now) (judge self.now.policy) senior.now self.now register.now panel borrower role minutes) result }
+        ensures refused_by_the_first_check_that_holds { Found (checks (facing (book_of K.meaning book.now rules.now entries.now) (P.judge self.now.policy) senior.now self.now register.now) (Lend panel borrower role minutes)) (Lending (book_of K.meaning book.now rules.now entries.now) (P.judge self.now.policy) senior.now self.now register.now panel borrower role minutes) result }
     {
         let seat = self.seat_at(panel)?;
         check_person(borrower, register)?;
@@ -83,7 +83,7 @@ impl<P: Policy> Grader<P> {
         borrower: u16,
         role: u8,
     ) -> Result<(), Refusal>
-        ensures refused_by_the_first_check_that_holds { Found (borrower_checks (book_of meaning book.now rules.now entries.now) (judge self.now.policy) senior.now self.now register.now borrower role) (λ _. FreeToBorrow (book_of meaning book.now rules.now entries.now) (judge self.now.policy) senior.now self.now register.now borrower role) result }
+        ensures refused_by_the_first_check_that_holds { Found (borrower_checks (book_of K.meaning book.now rules.now entries.now) (P.judge self.now.policy) senior.now self.now register.now borrower role) (λ _. FreeToBorrow (book_of K.meaning book.now rules.now entries.now) (P.judge self.now.policy) senior.now self.now register.now borrower role) result }
     {
         if self.loans.has(borrower, role) {
             return Err(Refusal::AlreadyLent);
@@ -117,7 +117,7 @@ impl<P: Policy> Grader<P> {
         person: u16,
         role: u8,
     ) -> Result<(), Refusal>
-        ensures refused_unless_rules_entitle { StopsUnless NotEntitledByRules ((facing (book_of meaning book.now rules.now entries.now) (judge self.now.policy) senior.now self.now register.now).ByRules person role) result }
+        ensures refused_unless_rules_entitle { StopsUnless NotEntitledByRules ((facing (book_of K.meaning book.now rules.now entries.now) (P.judge self.now.policy) senior.now self.now register.now).ByRules person role) result }
     {
         let ruling = ruling::<K, P>(
             book,

@@ -17,7 +17,7 @@ pub(super) fn ruling<'a, K: Kind, P: Policy>(
     senior: &'a Seniority,
     clock: u32,
 ) -> Ruling<'a, K, P>
-    ensures rules_by_what_is_lent { setting meaning judge result ≡ record { book = book_of meaning book.entry.now rules.now entries.now; judge = judge policy.now; records = register.now; minute = clock } }
+    ensures rules_by_what_is_lent { setting K.meaning P.judge result ≡ record { book = book_of K.meaning book.entry.now rules.now entries.now; judge = P.judge policy.now; records = register.now; minute = clock } }
     ensures ranks_by_the_table { ranks result ≡ senior.now }
 {
     Ruling {

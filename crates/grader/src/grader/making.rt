@@ -28,7 +28,7 @@ impl<P: Policy + Drop> Ready<P> {
         register: &[K::Value],
         start: u32,
     ) -> Result<Ready<P>, Refusal>
-        ensures refused_by_the_first_check_that_holds { CheckedMaking meaning register.now policy start result }
+        ensures refused_by_the_first_check_that_holds { CheckedMaking K.meaning register.now policy start result }
     {
         if register.len() > PERSONS {
             return Err(Refusal::TooManyPersons);
@@ -52,7 +52,7 @@ impl<P: Policy> Ready<P> {
         entries: &'m [Entry],
     ) -> Grader<P>
         ensures keeps_the_policy { result.policy ≡ self.policy }
-        ensures the_empty_log_leads_to_it { (first : List K.Value) → Led (plant (book_of meaning book.now rules.now entries.now) (judge self.policy) first self.start) [] result.senior (held result first) }
+        ensures the_empty_log_leads_to_it { (first : List K.Value) → Led (plant (book_of K.meaning book.now rules.now entries.now) (P.judge self.policy) first self.start) [] result.senior (held result first) }
     {
         let Ready { policy, start } = self;
         let senior = book.view::<K>(rules, entries).seniority();
@@ -68,7 +68,7 @@ impl<P: Policy> Ready<P> {
 
 // Whether some record is unlawful.
 fn has_unlawful<K: Kind>(register: &[K::Value]) -> bool
-    ensures tells_whether_some_record_is_unlawful { Decides result ((i : ℕ) × (v : K.Value) × (slice_get register.now i ≡ Some v) × (meaning.lawful_value v ≢ true)) }
+    ensures tells_whether_some_record_is_unlawful { Decides result ((i : ℕ) × (v : K.Value) × (slice_get register.now i ≡ Some v) × (K.meaning.lawful_value v ≢ true)) }
 {
     for v in register {
         if !K::lawful_value(*v) {

@@ -19,8 +19,8 @@ impl<P: Policy> Grader<P> {
         call: Call<K::Value>,
     ) -> Reply
         ensures policy_and_table_stay { Keeps self.old self.new }
-        ensures refused_by_its_first_check_that_holds_else_done { (first : List K.Value) (start : ℕ) → Does (over meaning (judge self.old.policy) book.now rules.now entries.now first start) self.old register.old call result self.new register.new }
-        ensures carries_every_log_on { (first : List K.Value) (start : ℕ) → Carries (over meaning (judge self.old.policy) book.now rules.now entries.now first start) self.old register.old call result self.new register.new }
+        ensures refused_by_its_first_check_that_holds_else_done { (first : List K.Value) (start : ℕ) → Does (over K.meaning (P.judge self.old.policy) book.now rules.now entries.now first start) self.old register.old call result self.new register.new }
+        ensures carries_every_log_on { (first : List K.Value) (start : ℕ) → Carries (over K.meaning (P.judge self.old.policy) book.now rules.now entries.now first start) self.old register.old call result self.new register.new }
     {
         match call {
             Call::Open { panel, person } => done(self.open::<K>(register, panel, person)),

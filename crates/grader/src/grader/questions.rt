@@ -24,8 +24,8 @@ impl<P: Policy> Grader<P> {
         person: u16,
         role: u8,
     ) -> Result<Standing, Refusal>
-        ensures refused_by_its_first_check_that_holds_else_answered { (first : List K.Value) (start : ℕ) → Does (over meaning (judge self.now.policy) book.now rules.now entries.now first start) self.now register.now (Entitled person role) (standing_reply result) self.now register.now }
-        ensures carries_every_log_on { (first : List K.Value) (start : ℕ) → Carries (over meaning (judge self.now.policy) book.now rules.now entries.now first start) self.now register.now (Entitled person role) (standing_reply result) self.now register.now }
+        ensures refused_by_its_first_check_that_holds_else_answered { (first : List K.Value) (start : ℕ) → Does (over K.meaning (P.judge self.now.policy) book.now rules.now entries.now first start) self.now register.now (Entitled person role) (standing_reply result) self.now register.now }
+        ensures carries_every_log_on { (first : List K.Value) (start : ℕ) → Carries (over K.meaning (P.judge self.now.policy) book.now rules.now entries.now first start) self.now register.now (Entitled person role) (standing_reply result) self.now register.now }
     {
         check_person(person, register)?;
         check_role(role)?;
@@ -44,7 +44,7 @@ impl<P: Policy> Grader<P> {
         person: u16,
         role: u8,
     ) -> Standing
-        ensures by_rules_else_by_loan_else_neither { StandsSo (book_of meaning book.now rules.now entries.now) (judge self.now.policy) senior.now self.now register.now person role result }
+        ensures by_rules_else_by_loan_else_neither { StandsSo (book_of K.meaning book.now rules.now entries.now) (P.judge self.now.policy) senior.now self.now register.now person role result }
     {
         let ruling = ruling::<K, P>(
             book,

@@ -25,8 +25,8 @@ impl<P: Policy> Grader<P> {
         role: u8,
     ) -> Result<(), Refusal>
         ensures policy_and_table_stay { Keeps self.old self.new }
-        ensures refused_by_its_first_check_that_holds_else_done { (first : List K.Value) (start : ℕ) → Does (over meaning (judge self.old.policy) book.now rules.now entries.now first start) self.old register.now (Recall panel borrower role) (reply result) self.new register.now }
-        ensures carries_every_log_on { (first : List K.Value) (start : ℕ) → Carries (over meaning (judge self.old.policy) book.now rules.now entries.now first start) self.old register.now (Recall panel borrower role) (reply result) self.new register.now }
+        ensures refused_by_its_first_check_that_holds_else_done { (first : List K.Value) (start : ℕ) → Does (over K.meaning (P.judge self.old.policy) book.now rules.now entries.now first start) self.old register.now (Recall panel borrower role) (reply result) self.new register.now }
+        ensures carries_every_log_on { (first : List K.Value) (start : ℕ) → Carries (over K.meaning (P.judge self.old.policy) book.now rules.now entries.now first start) self.old register.now (Recall panel borrower role) (reply result) self.new register.now }
     {
         let senior = self.senior;
         self.check_recall::<K>(
@@ -49,7 +49,7 @@ impl<P: Policy> Grader<P> {
         borrower: u16,
         role: u8,
     ) -> Result<(), Refusal>
-        ensures refused_by_the_first_check_that_holds { Found (checks (facing (book_of meaning book.now rules.now entries.now) (judge self.now.policy) senior.now self.now register.now) (Recall panel borrower role)) (λ _. Unit {0}) result }
+        ensures refused_by_the_first_check_that_holds { Found (checks (facing (book_of K.meaning book.now rules.now entries.now) (P.judge self.now.policy) senior.now self.now register.now) (Recall panel borrower role)) (λ _. Unit {0}) result }
     {
         let seat = self.seat_at(panel)?;
         check_person(borrower, register)?;

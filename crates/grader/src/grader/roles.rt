@@ -28,8 +28,8 @@ impl<P: Policy> Grader<P> {
         role: u8,
     ) -> Result<(), Refusal>
         ensures policy_and_table_stay { Keeps self.old self.new }
-        ensures refused_by_its_first_check_that_holds_else_done { (first : List K.Value) (start : ℕ) → Does (over meaning (judge self.old.policy) book.now rules.now entries.now first start) self.old register.now (Take panel role) (reply result) self.new register.now }
-        ensures carries_every_log_on { (first : List K.Value) (start : ℕ) → Carries (over meaning (judge self.old.policy) book.now rules.now entries.now first start) self.old register.now (Take panel role) (reply result) self.new register.now }
+        ensures refused_by_its_first_check_that_holds_else_done { (first : List K.Value) (start : ℕ) → Does (over K.meaning (P.judge self.old.policy) book.now rules.now entries.now first start) self.old register.now (Take panel role) (reply result) self.new register.now }
+        ensures carries_every_log_on { (first : List K.Value) (start : ℕ) → Carries (over K.meaning (P.judge self.old.policy) book.now rules.now entries.now first start) self.old register.now (Take panel role) (reply result) self.new register.now }
     {
         let senior = self.senior;
         let seat = self.check_take::<K>(&senior, book, rules, entries, register, panel, role)?;
@@ -52,7 +52,7 @@ impl<P: Policy> Grader<P> {
         panel: u8,
         role: u8,
     ) -> Result<Seat, Refusal>
-        ensures refused_by_the_first_check_that_holds { Found (checks (facing (book_of meaning book.now rules.now entries.now) (judge self.now.policy) senior.now self.now register.now) (Take panel role)) (GrantedSeat (book_of meaning book.now rules.now entries.now) (judge self.now.policy) senior.now self.now register.now panel role) result }
+        ensures refused_by_the_first_check_that_holds { Found (checks (facing (book_of K.meaning book.now rules.now entries.now) (P.judge self.now.policy) senior.now self.now register.now) (Take panel role)) (GrantedSeat (book_of K.meaning book.now rules.now entries.now) (P.judge self.now.policy) senior.now self.now register.now panel role) result }
     {
         let seat = self.seat_at(panel)?;
         check_role(role)?;
@@ -74,7 +74,7 @@ impl<P: Policy> Grader<P> {
         person: u16,
         role: u8,
     ) -> Result<(), Refusal>
-        ensures refused_without_grounds { StopsByVerdict (book_of meaning book.now rules.now entries.now) (judge self.now.policy) senior.now self.now register.now person role result }
+        ensures refused_without_grounds { StopsByVerdict (book_of K.meaning book.now rules.now entries.now) (P.judge self.now.policy) senior.now self.now register.now person role result }
     {
         let ruling = ruling::<K, P>(
             book,

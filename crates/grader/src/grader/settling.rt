@@ -27,8 +27,8 @@ impl<P: Policy> Grader<P> {
         record: K::Value,
     ) -> Result<(), Refusal>
         ensures policy_and_table_stay { Keeps self.old self.new }
-        ensures refused_by_its_first_check_that_holds_else_done { (first : List K.Value) (start : ℕ) → Does (over meaning (judge self.old.policy) book.now rules.now entries.now first start) self.old register.old (Enter person «record») (reply result) self.new register.new }
-        ensures carries_every_log_on { (first : List K.Value) (start : ℕ) → Carries (over meaning (judge self.old.policy) book.now rules.now entries.now first start) self.old register.old (Enter person «record») (reply result) self.new register.new }
+        ensures refused_by_its_first_check_that_holds_else_done { (first : List K.Value) (start : ℕ) → Does (over K.meaning (P.judge self.old.policy) book.now rules.now entries.now first start) self.old register.old (Enter person «record») (reply result) self.new register.new }
+        ensures carries_every_log_on { (first : List K.Value) (start : ℕ) → Carries (over K.meaning (P.judge self.old.policy) book.now rules.now entries.now first start) self.old register.old (Enter person «record») (reply result) self.new register.new }
     {
         check_person(person, register)?;
         if !K::lawful_value(record) {
@@ -49,8 +49,8 @@ impl<P: Policy> Grader<P> {
         minute: u32,
     ) -> Result<(), Refusal>
         ensures policy_and_table_stay { Keeps self.old self.new }
-        ensures refused_by_its_first_check_that_holds_else_done { (first : List K.Value) (start : ℕ) → Does (over meaning (judge self.old.policy) book.now rules.now entries.now first start) self.old register.now (Tick minute) (reply result) self.new register.now }
-        ensures carries_every_log_on { (first : List K.Value) (start : ℕ) → Carries (over meaning (judge self.old.policy) book.now rules.now entries.now first start) self.old register.now (Tick minute) (reply result) self.new register.now }
+        ensures refused_by_its_first_check_that_holds_else_done { (first : List K.Value) (start : ℕ) → Does (over K.meaning (P.judge self.old.policy) book.now rules.now entries.now first start) self.old register.now (Tick minute) (reply result) self.new register.now }
+        ensures carries_every_log_on { (first : List K.Value) (start : ℕ) → Carries (over K.meaning (P.judge self.old.policy) book.now rules.now entries.now first start) self.old register.now (Tick minute) (reply result) self.new register.now }
     {
         if minute < self.clock || minute > LAST_MINUTE {
             return Err(Refusal::MinuteOutOfBounds);
@@ -68,7 +68,7 @@ impl<P: Policy> Grader<P> {
         entries: &'m [Entry],
         register: &'m [K::Value],
     )
-        ensures ends_what_has_no_grounds { Settled (book_of meaning book.now rules.now entries.now) (judge self.old.policy) self.old register.now self.new }
+        ensures ends_what_has_no_grounds { Settled (book_of K.meaning book.now rules.now entries.now) (P.judge self.old.policy) self.old register.now self.new }
     {
         let senior = self.senior;
         settle_tables::<K, P>(
@@ -97,8 +97,8 @@ fn settle_tables<'a, K: Kind, P: Policy>(
     panels: &mut Panels,
     loans: &mut Loans,
 )
-    ensures keeps_exactly_the_loans_that_may_stand { Filtered (MayStand (setting_of (book_of meaning book.now rules.now entries.now) (judge policy.now) register.now clock) senior.now) (standing loans.old) (standing loans.new) }
-    ensures keeps_exactly_the_roles_with_grounds { Trimmed (λ person role. ByTable (setting_of (book_of meaning book.now rules.now entries.now) (judge policy.now) register.now clock) senior.now person role ⊎ OnLoan (standing loans.new) person role) panels.old.seats panels.new.seats }
+    ensures keeps_exactly_the_loans_that_may_stand { Filtered (MayStand (setting_of (book_of K.meaning book.now rules.now entries.now) (P.judge policy.now) register.now clock) senior.now) (standing loans.old) (standing loans.new) }
+    ensures keeps_exactly_the_roles_with_grounds { Trimmed (λ person role. ByTable (setting_of (book_of K.meaning book.now rules.now entries.now) (P.judge policy.now) register.now clock) senior.now person role ⊎ OnLoan (standing loans.new) person role) panels.old.seats panels.new.seats }
 {
     let ruling = ruling::<K, P>(book, rules, entries, register, policy, senior, clock);
     loans.retain(&ruling);

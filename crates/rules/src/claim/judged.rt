@@ -8,7 +8,7 @@ use crate::seniority::Seniority;
 impl Claim {
     // What the policy makes of the claim.
     pub fn judged<P: Policy>(self, policy: &P, senior: &Seniority) -> Verdict
-        ensures entitled_exactly_when_the_policy_says_yes { Judged (judge policy.now self.granting self.denying senior.now) self result }
+        ensures entitled_exactly_when_the_policy_says_yes { Judged (P.judge policy.now self.granting self.denying senior.now) self result }
     {
         if self.is_allowed(policy, senior) {
             return Verdict::Entitled;
@@ -25,7 +25,7 @@ impl Claim {
 
     // Whether the policy says yes to it.
     pub fn is_allowed<P: Policy>(self, policy: &P, senior: &Seniority) -> bool
-        ensures what_the_policy_says { result ≡ judge policy.now self.granting self.denying senior.now }
+        ensures what_the_policy_says { result ≡ P.judge policy.now self.granting self.denying senior.now }
     {
         policy.says(self.granting, self.denying, senior)
     }

@@ -10,8 +10,8 @@ use sets::Set;
 impl<'m, K: Kind> View<'m, K> {
     // Of the rules met, those that grant the role at the minute and those that deny it.
     pub fn claim(&self, met: Set, role: u8, minute: u32) -> Claim
-        ensures granting_exactly_the_met_rules_that_grant_or_lead { (i : ℕ) → Decides (member result.granting i) ((member met i ≡ true) × Grants (seen meaning self.now) role minute i) }
-        ensures denying_exactly_the_met_rules_that_deny { (i : ℕ) → Decides (member result.denying i) ((member met i ≡ true) × Denies (seen meaning self.now) role i) }
+        ensures granting_exactly_the_met_rules_that_grant_or_lead { (i : ℕ) → Decides (member result.granting i) ((member met i ≡ true) × Grants (seen K.meaning self.now) role minute i) }
+        ensures denying_exactly_the_met_rules_that_deny { (i : ℕ) → Decides (member result.denying i) ((member met i ≡ true) × Denies (seen K.meaning self.now) role i) }
     {
         let sources = self.sources(role, minute);
         let mut granting = Set::new();
@@ -33,7 +33,7 @@ impl<'m, K: Kind> View<'m, K> {
 
     // The role itself, and the first roles of the live entries that lead to it.
     fn sources(&self, role: u8, minute: u32) -> Set
-        ensures members_are_the_role_and_what_leads_to_it { (from : ℕ) → Decides (member result from) ((from < 64) × ((from ≡ role) ⊎ Leads (seen meaning self.now) from role minute)) }
+        ensures members_are_the_role_and_what_leads_to_it { (from : ℕ) → Decides (member result from) ((from < 64) × ((from ≡ role) ⊎ Leads (seen K.meaning self.now) from role minute)) }
     {
         let mut sources = Set::new().with(role);
         for entry in self.entries {

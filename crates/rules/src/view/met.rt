@@ -9,7 +9,7 @@ use sets::Set;
 impl<'m, K: Kind> View<'m, K> {
     // The rules that the record meets.
     pub fn met_by(&self, value: K::Value) -> Set
-        ensures members_are_exactly_the_rules_met { (i : ℕ) → Decides (member result i) (Meets (seen meaning self.now) value i) }
+        ensures members_are_exactly_the_rules_met { (i : ℕ) → Decides (member result i) (Meets (seen K.meaning self.now) value i) }
     {
         let mut met = Set::new();
         for (i, rule) in self.rules.iter().enumerate() {

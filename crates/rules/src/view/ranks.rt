@@ -14,7 +14,7 @@ use sets::Set;
 impl<'m, K: Kind> View<'m, K> {
     // Which rules are senior to which.
     pub fn seniority(&self) -> Seniority
-        ensures senior_exactly_when_its_test_implies_the_other { (i j : ℕ) → Decides (is_senior result i j) (Senior (seen meaning self.now) i j) }
+        ensures senior_exactly_when_its_test_implies_the_other { (i j : ℕ) → Decides (is_senior result i j) (Senior (seen K.meaning self.now) i j) }
     {
         let mut rows = [Set::new(); 64];
         for (i, rule) in self.rules.iter().enumerate() {
@@ -25,7 +25,7 @@ impl<'m, K: Kind> View<'m, K> {
 
     // The rules whose test the given one implies.
     fn implied_by(&self, test: K::Test) -> Set
-        ensures members_are_the_rules_whose_test_is_implied { (j : ℕ) → Decides (member result j) ((rule : Rule K.Test) × (slice_get self.now.rules.now j ≡ Some rule) × Implied meaning test rule.test) }
+        ensures members_are_the_rules_whose_test_is_implied { (j : ℕ) → Decides (member result j) ((rule : Rule K.Test) × (slice_get self.now.rules.now j ≡ Some rule) × Implied K.meaning test rule.test) }
     {
         let mut implied = Set::new();
         for (j, rule) in self.rules.iter().enumerate() {

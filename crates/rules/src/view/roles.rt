@@ -10,7 +10,7 @@ use sets::Set;
 impl<'m, K: Kind> View<'m, K> {
     // All the roles to which rules and policy entitle the record at the minute.
     pub fn entitled_roles<P: Policy>(&self, policy: &P, value: K::Value, minute: u32) -> Set
-        ensures members_are_exactly_the_roles_to_which_rules_entitle { (role : ℕ) → Decides (member result role) ((role < 64) × Allowed (seen meaning self.now) (judge policy.now) value role minute) }
+        ensures members_are_exactly_the_roles_to_which_rules_entitle { (role : ℕ) → Decides (member result role) ((role < 64) × Allowed (seen K.meaning self.now) (P.judge policy.now) value role minute) }
     {
         let senior = self.seniority();
         let met = self.met_by(value);

@@ -12,10 +12,10 @@ use kinds::Kind;
 impl<'m, K: Kind> View<'m, K> {
     // Whether rules and policy entitle the record to the role at the minute.
     pub fn verdict<P: Policy>(&self, policy: &P, value: K::Value, role: u8, minute: u32) -> Verdict
-        ensures entitled_exactly_when_the_policy_says_yes_to_the_rules_met { Ruled (seen meaning self.now) (judge policy.now) value role minute result }
-        ensures permission_needs_one_granting_rule { judge policy.now ≡ permission → (result ≡ Entitled) ↔ Permitted (seen meaning self.now) value role minute }
-        ensures denial_needs_one_granting_and_no_denying_rule { judge policy.now ≡ denial → (result ≡ Entitled) ↔ PermittedAndNotDenied (seen meaning self.now) value role minute }
-        ensures local_denial_needs_one_granting_rule_comparable_with_no_denying_rule { judge policy.now ≡ local_denial → (result ≡ Entitled) ↔ PermittedAndNotDeniedLocally (seen meaning self.now) value role minute }
+        ensures entitled_exactly_when_the_policy_says_yes_to_the_rules_met { Ruled (seen K.meaning self.now) (P.judge policy.now) value role minute result }
+        ensures permission_needs_one_granting_rule { P.judge policy.now ≡ permission → (result ≡ Entitled) ↔ Permitted (seen K.meaning self.now) value role minute }
+        ensures denial_needs_one_granting_and_no_denying_rule { P.judge policy.now ≡ denial → (result ≡ Entitled) ↔ PermittedAndNotDenied (seen K.meaning self.now) value role minute }
+        ensures local_denial_needs_one_granting_rule_comparable_with_no_denying_rule { P.judge policy.now ≡ local_denial → (result ≡ Entitled) ↔ PermittedAndNotDeniedLocally (seen K.meaning self.now) value role minute }
     {
         let senior = self.seniority();
         self.claim(self.met_by(value), role, minute)

@@ -12,7 +12,7 @@ use sets::Set;
 impl<'a, K: Kind, P: Policy> Ruling<'a, K, P> {
     // The rules that the person meets; none where there is no such person.
     pub fn met(&self, person: u16) -> Set
-        ensures members_are_exactly_the_rules_met { (i : ℕ) → Decides (member result i) (MetBy (setting meaning judge self.now) person i) }
+        ensures members_are_exactly_the_rules_met { (i : ℕ) → Decides (member result i) (MetBy (setting K.meaning P.judge self.now) person i) }
     {
         if person as usize >= self.register.len() {
             return Set::new();
@@ -22,22 +22,22 @@ impl<'a, K: Kind, P: Policy> Ruling<'a, K, P> {
 
     // The rules that the person meets and that grant or deny the role.
     pub fn claim(&self, person: u16, role: u8) -> Claim
-        ensures granting_exactly_the_met_rules_that_grant_or_lead { (i : ℕ) → Decides (member result.granting i) (GrantedBy (setting meaning judge self.now) person role i) }
-        ensures denying_exactly_the_met_rules_that_deny { (i : ℕ) → Decides (member result.denying i) (DeniedBy (setting meaning judge self.now) person role i) }
+        ensures granting_exactly_the_met_rules_that_grant_or_lead { (i : ℕ) → Decides (member result.granting i) (GrantedBy (setting K.meaning P.judge self.now) person role i) }
+        ensures denying_exactly_the_met_rules_that_deny { (i : ℕ) → Decides (member result.denying i) (DeniedBy (setting K.meaning P.judge self.now) person role i) }
     {
         self.view.claim(self.met(person), role, self.clock)
     }
 
     // Whether the person is entitled by rules to the role.
     pub fn entitles(&self, person: u16, role: u8) -> bool
-        ensures tells_whether_rules_entitle { Decides result (ByTable (setting meaning judge self.now) (ranks self.now) person role) }
+        ensures tells_whether_rules_entitle { Decides result (ByTable (setting K.meaning P.judge self.now) (ranks self.now) person role) }
     {
         self.allows(self.met(person), role)
     }
 
     // Whether a person who meets exactly these rules is entitled by rules to the role.
     pub fn allows(&self, met: Set, role: u8) -> bool
-        ensures tells_whether_rules_entitle_whoever_meets_these { (person : ℕ) → ((i : ℕ) → Decides (member met i) (MetBy (setting meaning judge self.now) person i)) → Decides result (ByTable (setting meaning judge self.now) (ranks self.now) person role) }
+        ensures tells_whether_rules_entitle_whoever_meets_these { (person : ℕ) → ((i : ℕ) → Decides (member met i) (MetBy (setting K.meaning P.judge self.now) person i)) → Decides result (ByTable (setting K.meaning P.judge self.now) (ranks self.now) person role) }
     {
         self.view
             .claim(met, role, self.clock)
@@ -46,21 +46,21 @@ impl<'a, K: Kind, P: Policy> Ruling<'a, K, P> {
 
     // What rules and policy say of the person and the role.
     pub fn verdict(&self, person: u16, role: u8) -> Verdict
-        ensures entitled_exactly_when_the_policy_says_yes { Decided (setting meaning judge self.now) (ranks self.now) person role result }
+        ensures entitled_exactly_when_the_policy_says_yes { Decided (setting K.meaning P.judge self.now) (ranks self.now) person role result }
     {
         self.claim(person, role).judged(self.policy, self.senior)
     }
 
     // The lowest of the denying rules that the person meets.
     pub fn first_denying(&self, person: u16, role: u8) -> Option<u8>
-        ensures gives_the_lowest_denying_rule { MatchOption result ((i : ℕ) → DeniedBy (setting meaning judge self.now) person role i → ⊥) (Lowest (DeniedBy (setting meaning judge self.now) person role)) }
+        ensures gives_the_lowest_denying_rule { MatchOption result ((i : ℕ) → DeniedBy (setting K.meaning P.judge self.now) person role i → ⊥) (Lowest (DeniedBy (setting K.meaning P.judge self.now) person role)) }
     {
         self.claim(person, role).denying.first()
     }
 
     // Whether the loan may stand: it is not due, its lender is entitled by rules, and its borrower meets no denying rule.
     pub fn lets_stand(&self, loan: Loan) -> bool
-        ensures tells_whether_the_loan_may_stand { Decides result (MayStand (setting meaning judge self.now) (ranks self.now) loan) }
+        ensures tells_whether_the_loan_may_stand { Decides result (MayStand (setting K.meaning P.judge self.now) (ranks self.now) loan) }
     {
         if u64::from(self.clock) >= loan.due {
             return false;
