@@ -3,37 +3,36 @@ use Rattle.std.proofs.Common.{◌≡◌, ℕ, ◌+◌, ◌<◌, ◌≤◌, true,
 use Rattle.std.specs.List.{slice_get}
 use Rattle.std.proofs.lemmas.Option.{slice_get-get_or, slice_get_past}
 use Rattle.std.proofs.lemmas.Bool.{both_ways, cases_eq, cases_lt}
-use Rattle.rules.specs.declared.seniority.Seniority.{Seniority}
 use Rattle.rules.proofs.Places.{found_set, found_other}
 use Rattle.tables.specs.declared.loan.Loan.{Loan}
 use Rattle.tables.specs.declared.seat.Seat.{Seat}
 use Rattle.tables.specs.Loans.{OnLoan}
 use Rattle.tables.specs.Panels.{seated, person_of, active_of, seat_at, HasGrounds, Trimmed}
-use Rattle.tables.specs.Settings.{Setting, ByTable}
+use Rattle.tables.specs.Settings.{Setting, ByRules}
 
 -- what entitles: the rules, or a loan
-abbrev pub Grounds : {V S : Type 0} → Setting V S → Seniority → List Loan → ℕ → ℕ → Type 0
-Grounds s table loans person role = ByTable s table person role ⊎ OnLoan loans person role
+abbrev pub Grounds : {V S : Type 0} → Setting V S → List Loan → ℕ → ℕ → Type 0
+Grounds s loans person role = ByRules s person role ⊎ OnLoan loans person role
 
 module _ (G : ℕ → ℕ → Type 0) where
-  pub record Trimmed-seat (old new : Option Seat) : Type 0 where
+  pub record TrimmedSeat (old new : Option Seat) : Type 0 where
     pub same_person : person_of new ≡ person_of old
     pub roles_with_grounds : (role : ℕ) → Decides (active_of new role) ((active_of old role ≡ true) × HasGrounds G old role)
 
   -- a panel that is closed stays closed
-  closed : Trimmed-seat None None
+  closed : TrimmedSeat None None
   closed = record { same_person = refl; roles_with_grounds = λ role. ((λ e. absurd (both_ways _ refl e)), (λ w. w.0)) }
 
   -- where a loop has come to panel i
   pub record TrimmedTo (i : ℕ) (old new : List (Option Seat)) : Type 0 where
     pub long : length new ≡ length old
-    pub done : (at : ℕ) → at < i → Trimmed-seat (seat_at old at) (seat_at new at)
+    pub done : (at : ℕ) → at < i → TrimmedSeat (seat_at old at) (seat_at new at)
     pub rest : (at : ℕ) → i ≤ at → slice_get new at ≡ slice_get old at
 
   pub trimmed_none : (seats : List (Option Seat)) → TrimmedTo 0 seats seats
   trimmed_none seats = record { long = refl; done = λ at lt. absurd (let z : ⊥ = omega arith in z); rest = λ at _. refl }
 
-  pub trimmed_more : (i : ℕ) (old xs : List (Option Seat)) (d new : Option Seat) → i < length old → Trimmed-seat (get_or xs i d) new → TrimmedTo i old xs → TrimmedTo (i + 1) old (set xs i new)
+  pub trimmed_more : (i : ℕ) (old xs : List (Option Seat)) (d new : Option Seat) → i < length old → TrimmedSeat (get_or xs i d) new → TrimmedTo i old xs → TrimmedTo (i + 1) old (set xs i new)
   trimmed_more i old xs d new lt one t =
       let l = t.long in
       let within : i < length xs = omega arith in
@@ -42,21 +41,21 @@ module _ (G : ℕ → ℕ → Type 0) where
       record {
         long = length-set xs i new ∙ t.long;
         done = λ at below. ⊎_elim
-            (λ same. subst (λ k. Trimmed-seat (seat_at old k) (seat_at (set xs i new) k)) (sym same)
-            (subst (λ y. Trimmed-seat y (seat_at (set xs i new) i)) was (subst (Trimmed-seat (get_or xs i d)) is one)))
-            (λ ne. subst (λ y. Trimmed-seat (seat_at old at) (seated y)) (sym (found_other xs i at new ne)) (t.done at (omega arith)))
+            (λ same. subst (λ k. TrimmedSeat (seat_at old k) (seat_at (set xs i new) k)) (sym same)
+            (subst (λ y. TrimmedSeat y (seat_at (set xs i new) i)) was (subst (TrimmedSeat (get_or xs i d)) is one)))
+            (λ ne. subst (λ y. TrimmedSeat (seat_at old at) (seated y)) (sym (found_other xs i at new ne)) (t.done at (omega arith)))
             (cases_eq at i);
         rest = λ at past. found_other xs i at new (λ e. let z : ⊥ = omega arith in z) ∙ t.rest at (omega arith);
       }
 
   pub trimmed_all : (i : ℕ) (old new : List (Option Seat)) → length old ≤ i → TrimmedTo i old new → Trimmed G old new
   trimmed_all i old new all t =
-      let each : (at : ℕ) → Trimmed-seat (seat_at old at) (seat_at new at) = λ at. ⊎_elim
+      let each : (at : ℕ) → TrimmedSeat (seat_at old at) (seat_at new at) = λ at. ⊎_elim
       (t.done at)
       (λ past.
       let none : slice_get old at ≡ None = slice_get_past old at (omega arith) in
       let none' : slice_get new at ≡ None = t.rest at past ∙ none in
-      subst (λ y. Trimmed-seat (seated y) (seat_at new at)) (sym none) (subst (λ y. Trimmed-seat None (seated y)) (sym none') closed))
+      subst (λ y. TrimmedSeat (seated y) (seat_at new at)) (sym none) (subst (λ y. TrimmedSeat None (seated y)) (sym none') closed))
       (cases_lt at i) in
       record {
         panels_there = t.long;

@@ -9,13 +9,13 @@ use Rattle.sets.proofs.MemberLaws.{empty_decides, some-member}
 use Rattle.sets.proofs.Gathering.{Holds, holds_none}
 use Rattle.rules.specs.declared.claim.Verdict.{Verdict}
 use Rattle.rules.specs.declared.claim.Verdict.TheVariants.{Entitled, NothingGrants, Denied}
-use Rattle.rules.specs.declared.seniority.Seniority.{Seniority}
 use Rattle.rules.specs.Policies.{NothingGrantingIsNo}
 use Rattle.rules.specs.Rules.{Meets, Grants, Denies, Granting, Denying}
 use Rattle.rules.specs.Verdicts.{Judged}
 use Rattle.rules.proofs.Places.{found_within, found_one}
 use Rattle.rules.proofs.VerdictLaws.{same_holds}
-use Rattle.tables.specs.Settings.{Setting, MetBy, GrantedBy, DeniedBy, ByTable, Decided, Lowest}
+use Rattle.tables.specs.Settings.{Setting, MetBy, GrantedBy, DeniedBy, ByRules}
+use Rattle.tables.specs.Verdicts.{Decided, Lowest}
 
 -- the lowest member of a set is the lowest of the numbers that the set is to hold
 pub lowest_held : (P : ℕ → Type 0) (set : Set) → Holds P set → (i : ℕ) → LowestFrom set 0 i → Lowest P i
@@ -70,10 +70,10 @@ module _ {V S : Type 0} (s : Setting V S) where
         (n_are i)
 
     -- a yes needs a granting rule, and so a person
-    pub by_table_is : (table : Seniority) → NothingGrantingIsNo s.judge → Decides (s.judge p n table) (ByTable s table person role)
-    by_table_is table never = (
+    pub by_rules_is : NothingGrantingIsNo s.judge → Decides (s.judge p n s.table) (ByRules s person role)
+    by_rules_is never = (
       (λ e.
-          let some : empty p ≡ false = ⊎_elim (λ y. absurd (both_ways (s.judge p n table) (never p n table ((empty_decides p).0 y)) e)) (λ z. z) (cases_Bool (empty p)) in
+          let some : empty p ≡ false = ⊎_elim (λ y. absurd (both_ways (s.judge p n s.table) (never p n s.table ((empty_decides p).0 y)) e)) (λ z. z) (cases_Bool (empty p)) in
           let w = some-member p some in
           let g = (p_are w.0).0 w.1 in
           record {
@@ -95,11 +95,11 @@ module _ {V S : Type 0} (s : Setting V S) where
           cc),
     )
 
-    pub decided : (table : Seniority) (verdict : Verdict) → NothingGrantingIsNo s.judge → Judged (s.judge p n table) (record { granting = p; denying = n }) verdict → Decided s table person role verdict
-    decided table Entitled never j = (by_table_is table never).0 j
-    decided table NothingGrants never none = λ i g. both_ways (member p i) (none i) ((p_are i).1 g)
-    decided table (Denied rule) never j = record {
-      refused = not_from_Decides (s.judge p n table) (by_table_is table never) j.0;
+    pub decided : (verdict : Verdict) → NothingGrantingIsNo s.judge → Judged (s.judge p n s.table) (record { granting = p; denying = n }) verdict → Decided s person role verdict
+    decided Entitled never j = (by_rules_is never).0 j
+    decided NothingGrants never none = λ i g. both_ways (member p i) (none i) ((p_are i).1 g)
+    decided (Denied rule) never j = record {
+      refused = not_from_Decides (s.judge p n s.table) (by_rules_is never) j.0;
       granting = (j.1.0, (p_are j.1.0).0 j.1.1);
       lowest = lowest_held (DeniedBy s person role) n n_are rule j.2;
     }

@@ -1,3 +1,4 @@
 pub mod Loans
 pub mod Panels
 pub mod Settings
+pub mod Verdicts

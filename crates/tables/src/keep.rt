@@ -1,11 +1,11 @@
 ghost use Rattle.std.specs.Prelude.{Decides};
-ghost use Rattle.tables.specs.declared.loan.Loan.{Loan as Any-loan};
+ghost use Rattle.tables.specs.declared.loan.Loan.{Loan as AnyLoan};
 
 use crate::loan::Loan;
 
 // Which loans stay.
 pub trait Keep {
-    ghost passes: { Self → Any-loan → Type 0 };
+    ghost passes: { Self → AnyLoan → Type 0 };
 
     fn keeps(&self, loan: Loan) -> bool
         ensures tells_whether_it_passes { Decides result (passes self.now loan) };

@@ -2,6 +2,7 @@ use kinds::Kind;
 use rules::{Policy, Seniority, View};
 
 mod persons;
+mod verdicts;
 
 // All that entitlement by rules rests on, made at each call from what the grader holds and what it is lent.
 #[derive(Drop)]

@@ -35,7 +35,7 @@ impl Loans {
 
     // Keeps the loans that pass the test, in their order, and ends the others for good.
     pub fn retain<T: Keep>(&mut self, test: &T)
-        ensures keeps_exactly_the_loans_that_pass { Filtered (passes test.now) (standing self.old) (standing self.new) }
+        ensures keeps_exactly_the_loans_that_pass { Filtered (T.passes test.now) (standing self.old) (standing self.new) }
     {
         let count = self.count;
         let kept = keep(&mut self.items, count, test);
@@ -46,7 +46,7 @@ impl Loans {
 // Brings those of the first `count` loans that pass the test to the front, and answers how many they are.
 fn keep<T: Keep>(items: &mut [Loan], count: usize, test: &T) -> usize
     requires { count ≤ length items.old }
-    ensures keeps_exactly_those_that_pass { Filtered (passes test.now) (take count items.old) (take result items.new) }
+    ensures keeps_exactly_those_that_pass { Filtered (T.passes test.now) (take count items.old) (take result items.new) }
     ensures answers_no_more_than_there_were { result ≤ count }
 {
     let mut front = 0;

@@ -2,7 +2,7 @@ ghost use Rattle.std.specs.Prelude.{◌≡◌, ℕ, true, ◌⊎◌, Decides};
 ghost use Rattle.sets.specs.Members.{member};
 ghost use Rattle.tables.specs.Loans.{standing, OnLoan};
 ghost use Rattle.tables.specs.Panels.{HasGrounds, Trimmed, active_of, person_of};
-ghost use Rattle.tables.specs.Settings.{ByTable, MetBy, setting, ranks};
+ghost use Rattle.tables.specs.Settings.{ByRules, MetBy, setting};
 
 use super::Panels;
 use crate::loans::Loans;
@@ -15,7 +15,7 @@ use sets::Set;
 impl Panels {
     // Takes from each panel every role to which its person is entitled neither by rules nor by a loan.
     pub fn trim<'a, K: Kind, P: Policy>(&mut self, ruling: &Ruling<'a, K, P>, loans: &Loans)
-        ensures each_panel_keeps_exactly_the_roles_with_grounds { Trimmed (λ person role. ByTable (setting K.meaning P.judge ruling.now) (ranks ruling.now) person role ⊎ OnLoan (standing loans.now) person role) self.old.seats self.new.seats }
+        ensures each_panel_keeps_exactly_the_roles_with_grounds { Trimmed (λ person role. ByRules (setting K.meaning P.judge ruling.now) person role ⊎ OnLoan (standing loans.now) person role) self.old.seats self.new.seats }
     {
         for i in 0..24 {
             let seat = self.seats[i];
@@ -31,7 +31,7 @@ fn trimmed<'a, K: Kind, P: Policy>(
     loans: &Loans,
 ) -> Option<Seat>
     ensures keeps_its_person { person_of result ≡ person_of seat }
-    ensures keeps_exactly_the_active_roles_with_grounds { (role : ℕ) → Decides (active_of result role) ((active_of seat role ≡ true) × HasGrounds (λ person role. ByTable (setting K.meaning P.judge ruling.now) (ranks ruling.now) person role ⊎ OnLoan (standing loans.now) person role) seat role) }
+    ensures keeps_exactly_the_active_roles_with_grounds { (role : ℕ) → Decides (active_of result role) ((active_of seat role ≡ true) × HasGrounds (λ person role. ByRules (setting K.meaning P.judge ruling.now) person role ⊎ OnLoan (standing loans.now) person role) seat role) }
 {
     match seat {
         None => None,
@@ -48,7 +48,7 @@ fn entitled_among<'a, K: Kind, P: Policy>(
     ruling: &Ruling<'a, K, P>,
     loans: &Loans,
 ) -> Set
-    ensures members_are_the_active_roles_with_grounds { (role : ℕ) → Decides (member result role) ((member seat.active role ≡ true) × (ByTable (setting K.meaning P.judge ruling.now) (ranks ruling.now) seat.person role ⊎ OnLoan (standing loans.now) seat.person role)) }
+    ensures members_are_the_active_roles_with_grounds { (role : ℕ) → Decides (member result role) ((member seat.active role ≡ true) × (ByRules (setting K.meaning P.judge ruling.now) seat.person role ⊎ OnLoan (standing loans.now) seat.person role)) }
 {
     let met = ruling.met(seat.person);
     let mut roles = Set::new();
@@ -69,7 +69,7 @@ fn is_entitled<'a, K: Kind, P: Policy>(
     loans: &Loans,
 ) -> bool
     requires { (i : ℕ) → Decides (member met i) (MetBy (setting K.meaning P.judge ruling.now) person i) }
-    ensures tells_whether_there_are_grounds { Decides result (ByTable (setting K.meaning P.judge ruling.now) (ranks ruling.now) person role ⊎ OnLoan (standing loans.now) person role) }
+    ensures tells_whether_there_are_grounds { Decides result (ByRules (setting K.meaning P.judge ruling.now) person role ⊎ OnLoan (standing loans.now) person role) }
 {
     ruling.allows(met, role) || loans.has(person, role)
 }

@@ -1,12 +1,13 @@
-ghost use Rattle.std.specs.Prelude.{ℕ, Decides, MatchOption};
+ghost use Rattle.std.specs.Prelude.{◌≡◌, ℕ, true, Decides};
 ghost use Rattle.sets.specs.Members.{member};
-ghost use Rattle.tables.specs.Settings.{MetBy, GrantedBy, DeniedBy, ByTable, Decided, Lowest, MayStand, setting, ranks};
+ghost use Rattle.rules.specs.Rules.{Grants, Denies, seen};
+ghost use Rattle.tables.specs.Settings.{MetBy, GrantedBy, DeniedBy, ByRules, MayStand, setting};
 
 use super::Ruling;
 use crate::keep::Keep;
 use crate::loan::Loan;
 use kinds::Kind;
-use rules::{Claim, Policy, Verdict};
+use rules::{Claim, Policy};
 use sets::Set;
 
 impl<'a, K: Kind, P: Policy> Ruling<'a, K, P> {
@@ -30,37 +31,15 @@ impl<'a, K: Kind, P: Policy> Ruling<'a, K, P> {
 
     // Whether the person is entitled by rules to the role.
     pub fn entitles(&self, person: u16, role: u8) -> bool
-        ensures tells_whether_rules_entitle { Decides result (ByTable (setting K.meaning P.judge self.now) (ranks self.now) person role) }
+        ensures tells_whether_rules_entitle { Decides result (ByRules (setting K.meaning P.judge self.now) person role) }
     {
-        self.allows(self.met(person), role)
-    }
-
-    // Whether a person who meets exactly these rules is entitled by rules to the role.
-    pub fn allows(&self, met: Set, role: u8) -> bool
-        ensures tells_whether_rules_entitle_whoever_meets_these { (person : ℕ) → ((i : ℕ) → Decides (member met i) (MetBy (setting K.meaning P.judge self.now) person i)) → Decides result (ByTable (setting K.meaning P.judge self.now) (ranks self.now) person role) }
-    {
-        self.view
-            .claim(met, role, self.clock)
+        self.claim(person, role)
             .is_allowed(self.policy, self.senior)
-    }
-
-    // What rules and policy say of the person and the role.
-    pub fn verdict(&self, person: u16, role: u8) -> Verdict
-        ensures entitled_exactly_when_the_policy_says_yes { Decided (setting K.meaning P.judge self.now) (ranks self.now) person role result }
-    {
-        self.claim(person, role).judged(self.policy, self.senior)
-    }
-
-    // The lowest of the denying rules that the person meets.
-    pub fn first_denying(&self, person: u16, role: u8) -> Option<u8>
-        ensures gives_the_lowest_denying_rule { MatchOption result ((i : ℕ) → DeniedBy (setting K.meaning P.judge self.now) person role i → ⊥) (Lowest (DeniedBy (setting K.meaning P.judge self.now) person role)) }
-    {
-        self.claim(person, role).denying.first()
     }
 
     // Whether the loan may stand: it is not due, its lender is entitled by rules, and its borrower meets no denying rule.
     pub fn lets_stand(&self, loan: Loan) -> bool
-        ensures tells_whether_the_loan_may_stand { Decides result (MayStand (setting K.meaning P.judge self.now) (ranks self.now) loan) }
+        ensures tells_whether_the_loan_may_stand { Decides result (MayStand (setting K.meaning P.judge self.now) loan) }
     {
         if u64::from(self.clock) >= loan.due {
             return false;
@@ -73,7 +52,7 @@ impl<'a, K: Kind, P: Policy> Ruling<'a, K, P> {
 }
 
 impl<'a, K: Kind, P: Policy> Keep for Ruling<'a, K, P> {
-    ghost passes = { λ ruling loan. MayStand (setting K.Kind.meaning P.Policy.judge ruling) (ranks ruling) loan };
+    ghost passes = { λ ruling loan. MayStand (setting K.Kind.meaning P.Policy.judge ruling) loan };
 
     fn keeps(&self, loan: Loan) -> bool {
         self.lets_stand(loan)

@@ -3,14 +3,14 @@ use Rattle.std.proofs.lemmas.Bool.Decides.{not_from_Decides}
 use Rattle.tables.specs.Loans.{Filtered}
 use Rattle.tables.proofs.LoanLaws.{swept_none, turn_kept, turn_left}
 use Rattle.tables.proofs.loans.change.keep.Goals as goal
-use Rattle.tables.proofs.loans.change.keep.Goals.{then_Keeps, else-keeps}
+use Rattle.tables.proofs.loans.change.keep.Goals.{then-keeps, else-keeps}
 
 pub loop-i-init : goal.loop-i-init
 loop-i-init g c = swept_none _ _
 
 pub loop-i-preserved : goal.loop-i-preserved
 loop-i-preserved g c = elim c.if-keeps.branch [
-  | then_Keeps w ↦
+  | then-keeps w ↦
       turn_kept _ c.args.items.now c.loop-i.items c.loop-i.i c.loop-i.front _ (omega (arith, c.loop-i-test.true, c.requires)) c.loop-i.invariant c.if-keeps.items c.if-keeps.front
       w.items-is w.front-is (c.keeps.ensures.tells_whether_it_passes.0 w.if-keeps.true)
   | else-keeps w ↦
