@@ -5,7 +5,7 @@ use Rattle.std.specs.List.{slice_get}
 use Rattle.std.proofs.lemmas.Bool.{cond_both}
 use Rattle.rules.specs.declared.seniority.Seniority.{Seniority}
 use Rattle.tables.specs.declared.loan.Loan.{Loan}
-use Rattle.tables.specs.Settings.{GrantedBy, DeniedBy}
+use Rattle.logs.specs.Moments.{GrantedBy, DeniedBy}
 use Rattle.logs.specs.Logs.{Plant, Log, granted, records_of, records, after, ThirtyTwoStand}
 use Rattle.logs.specs.Promises.{Held, Whole, Led}
 use Rattle.logs.specs.Situations.{Answered}

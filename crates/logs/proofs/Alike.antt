@@ -5,7 +5,7 @@ use mathlib.Core.Logic.{⊎_map}
 use Rattle.std.proofs.lemmas.Bool.Decides.{Decides-like}
 use Rattle.sets.specs.Members.{member}
 use Rattle.tables.specs.declared.loan.Loan.{Loan}
-use Rattle.tables.specs.Settings.{Lowest}
+use Rattle.tables.specs.Verdicts.{Lowest}
 use Rattle.logs.specs.Situations.{Situation, Check, only, FirstThatHolds, OnLoan, AtSeat, Overruled, Ungranted, closed_panel, no_person, not_by_rules, checks, standing, answer, Answered}
 use Rattle.logs.specs.declared.call.Call.{Call}
 use Rattle.logs.specs.declared.call.Call.TheVariants.{Open, Close, Take, Drop, Lend, Recall, Enter, Tick, Entitled, Roles}

@@ -3,7 +3,7 @@ use Rattle.std.proofs.Common.{◌≡◌, ℕ, List, [], ◌∷◌, map, sym, ref
 use mathlib.Core.List.{nil≢cons, cons≢nil}
 use Rattle.std.proofs.lemmas.Bool.{cases_order}
 use Rattle.rules.proofs.VerdictLaws.{same_holds}
-use Rattle.tables.specs.Settings.{Lowest}
+use Rattle.tables.specs.Verdicts.{Lowest}
 use Rattle.logs.specs.Logs.{Plant, Log, after, AllAnswered}
 use Rattle.logs.specs.Situations.{Situation, Check, only, FirstThatHolds, AtSeat, Overruled, checks, standing, answer, Answered}
 use Rattle.logs.specs.declared.call.Call.{Call}

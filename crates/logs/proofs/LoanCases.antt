@@ -3,7 +3,7 @@ use Rattle.std.proofs.Common.{◌≡◌, ℕ, ◌+◌, false, ◌↔◌, ◌∷�
 use Rattle.rules.specs.declared.seniority.Seniority.{Seniority}
 use Rattle.tables.specs.declared.loan.Loan.{Loan}
 use Rattle.tables.specs.Loans.{Lent, Filtered}
-use Rattle.tables.specs.Settings.{MayStand}
+use Rattle.logs.specs.Moments.{MayStand}
 use Rattle.logs.specs.Logs.{Plant, Log, clock, seat, moment, MadeBy, Recalled}
 use Rattle.logs.specs.Promises.{Held, Led}
 use Rattle.logs.specs.Steps.{now_held, Lends, LoansBecome}

@@ -4,12 +4,12 @@ use Rattle.std.proofs.lemmas.Bool.{cases_lt}
 use Rattle.rules.specs.declared.seniority.Seniority.{Seniority}
 use Rattle.tables.specs.declared.loan.Loan.{Loan}
 use Rattle.tables.specs.Loans.{Lent, OnLoan, Filtered}
-use Rattle.tables.specs.Settings.{MayStand}
+use Rattle.logs.specs.Moments.{MayStand}
 use Rattle.logs.specs.Logs.{Plant, Log, clock, moment, MadeBy, Recalled, LoanEnded, StandsAfter}
 use Rattle.logs.specs.Promises.{Ranks}
 use Rattle.logs.specs.declared.exchange.Exchange.{Exchange}
 use Rattle.logs.proofs.LoanPlaces.{There, Apart, last_there, front_there, front_or_last, kept_there, kept_or_left, apart_kept}
-use Rattle.logs.proofs.Moments.{by_table_is_by_rules}
+use Rattle.logs.proofs.Moments.{denied_in, by_table_is_by_rules}
 use Rattle.logs.proofs.SinceLaws.{since_step, made_now, made_before}
 
 -- of one role to one borrower
@@ -42,14 +42,14 @@ module _ {V S : Type 0} (p : Plant V S) (table : Seniority) (e : Exchange V) (lo
     unended loan m unrecalled (inl recalled) = unrecalled recalled
     unended loan m unrecalled (inr (inl due)) = let early = m.not_due in let y : ⊥ = omega arith in y
     unended loan m unrecalled (inr (inr (inl not_by_rules))) = not_by_rules ((by_table_is_by_rules p table ranks (e ∷ log) loan.lender loan.role).0 m.lender_entitled)
-    unended loan m unrecalled (inr (inr (inr denied))) = m.borrower_not_denied denied.0 denied.1
+    unended loan m unrecalled (inr (inr (inr denied))) = m.borrower_not_denied denied.0 ((denied_in (moment p (e ∷ log)) table loan.borrower loan.role denied.0).1 denied.1)
 
     -- a loan that may not stand has not gone unended
     not_unended : (loan : Loan) → ((Recalled p loan (e ∷ log) → ⊥) → MayStandNow loan → ⊥) → (LoanEnded p loan (e ∷ log) → ⊥) → ⊥
     not_unended loan left n = n (inr (inr (inl (λ b. left (λ recalled. n (inl recalled)) (record {
       not_due = ⊎_elim (λ early. early) (λ due. absurd (n (inr (inl due)))) (cases_lt (clock p (e ∷ log)) loan.due);
       lender_entitled = (by_table_is_by_rules p table ranks (e ∷ log) loan.lender loan.role).1 b;
-      borrower_not_denied = λ i denied. n (inr (inr (inr (i, denied))));
+      borrower_not_denied = λ i denied. n (inr (inr (inr (i, (denied_in (moment p (e ∷ log)) table loan.borrower loan.role i).0 denied))));
     })))))
 
     -- a call that recalls nothing, and changes neither the clock nor a record, ends no loan

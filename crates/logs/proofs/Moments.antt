@@ -7,13 +7,28 @@ use Rattle.rules.specs.Ranks.{is_senior}
 use Rattle.rules.specs.Rules.{Senior, AllowedBy}
 use Rattle.rules.proofs.VerdictLaws.{same_table}
 use Rattle.tables.specs.Panels.{person_at}
-use Rattle.tables.specs.Settings.{ByRules, ByTable}
+use Rattle.tables.specs.Settings.{GrantedBy as GrantedIn, DeniedBy as DeniedIn}
+use Rattle.logs.specs.Moments.{Moment, GrantedBy, DeniedBy, ByRules, ByTable, by}
 use Rattle.logs.specs.Logs.{Plant, Log, granted, clock_of, records_of, seat_of, clock, records, seat, moment}
 use Rattle.logs.specs.Promises.{Held, Whole, Ranks}
 use Rattle.logs.specs.Steps.{now_held, Became}
 use Rattle.logs.specs.declared.call.Call.{Call}
 use Rattle.logs.specs.declared.exchange.Exchange.{Exchange}
 use Rattle.logs.specs.declared.reply.Reply.TheVariants.{Done}
+
+-- a table of seniority has no part in which of the rules met grant or deny
+module _ {V S : Type 0} (m : Moment V S) (table : Seniority) (person role i : ℕ) where
+  pub granted_in : GrantedIn (by m table) person role i ↔ GrantedBy m person role i
+  granted_in = (
+    (λ g. record { value = g.value; on_record = g.on_record; granting = g.granting }),
+    (λ g. record { value = g.value; on_record = g.on_record; granting = g.granting }),
+  )
+
+  pub denied_in : DeniedIn (by m table) person role i ↔ DeniedBy m person role i
+  denied_in = (
+    (λ d. record { value = d.value; on_record = d.on_record; denying = d.denying }),
+    (λ d. record { value = d.value; on_record = d.on_record; denying = d.denying }),
+  )
 
 module _ {V S : Type 0} (p : Plant V S) where
   -- the clock, the records and the persons at the panels are those of the log

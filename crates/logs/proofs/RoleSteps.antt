@@ -5,7 +5,7 @@ use Rattle.std.proofs.lemmas.Bool.Decides.{not_from_Decides}
 use Rattle.tables.specs.declared.loan.Loan.{Loan}
 use Rattle.tables.specs.declared.seat.Seat.{Seat}
 use Rattle.tables.specs.Panels.{active_at}
-use Rattle.tables.specs.Settings.{ByRules}
+use Rattle.logs.specs.Moments.{ByRules}
 use Rattle.logs.specs.Logs.{Plant, Log, seat, moment, Took, Dropped, Closed, EntitledAfter, SeatEntitled, RoleEnded, ActiveAfter, StandsAfter}
 use Rattle.logs.specs.declared.exchange.Exchange.{Exchange}
 use Rattle.logs.proofs.SinceLaws.{since_step, made_now, made_before}

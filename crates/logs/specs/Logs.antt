@@ -24,7 +24,7 @@ use Rattle.rules.specs.Policies.{Judge}
 use Rattle.rules.specs.Rules.{Book}
 use Rattle.tables.specs.declared.loan.Loan.{Loan}
 use Rattle.tables.specs.Loans.{Lent}
-use Rattle.tables.specs.Settings.{Setting, ByRules, GrantedBy, DeniedBy}
+use Rattle.logs.specs.Moments.{Moment, ByRules, GrantedBy, DeniedBy}
 use Rattle.logs.specs.Since.{Since}
 use Rattle.logs.specs.Situations.{Situation, Answered}
 use Rattle.logs.specs.declared.call.Call.{Call}
@@ -98,7 +98,7 @@ module _ {V S : Type 0} (p : Plant V S) where
   seat [] at = None
   seat (e ∷ log) at = cond (granted e.reply) (seat_of e.call at (seat log at)) (seat log at)
 
-  abbrev pub moment : Log V → Setting V S
+  abbrev pub moment : Log V → Moment V S
   moment log = record { book = p.book; judge = p.judge; records = records log; minute = clock log }
 
   -- LOANS

@@ -19,7 +19,7 @@ use Rattle.tables.specs.declared.loan.Loan.{Loan}
 use Rattle.tables.specs.declared.seat.Seat.{Seat}
 use Rattle.tables.specs.Loans.{Lent}
 use Rattle.tables.specs.Panels.{person_at, active_at}
-use Rattle.tables.specs.Settings.{ByRules, MayStand}
+use Rattle.logs.specs.Moments.{ByRules, MayStand}
 use Rattle.logs.specs.Logs.{Plant, Log, clock, records, seat, moment, after, AllAnswered, StandsAfter, SeatEntitled, ActiveAfter}
 use Rattle.logs.specs.Refusals.{number}
 use Rattle.logs.specs.Situations.{Situation, Check, checks, making}

@@ -24,7 +24,7 @@ use Rattle.sets.specs.declared.set.Set.{Set}
 use Rattle.sets.specs.Members.{member}
 use Rattle.tables.specs.declared.loan.Loan.{Loan}
 use Rattle.tables.specs.Loans.{Lent}
-use Rattle.tables.specs.Settings.{Lowest}
+use Rattle.tables.specs.Verdicts.{Lowest}
 use Rattle.logs.specs.Refusals.{number}
 use Rattle.logs.specs.declared.call.Call.{Call}
 use Rattle.logs.specs.declared.call.Call.TheVariants.{Open, Close, Take, Drop, Lend, Recall, Enter, Tick, Entitled, Roles}

@@ -14,7 +14,7 @@ use Rattle.rules.specs.declared.seniority.Seniority.{Seniority}
 use Rattle.tables.specs.declared.loan.Loan.{Loan}
 use Rattle.tables.specs.Loans.{Lent, OnLoan, Filtered}
 use Rattle.tables.specs.Panels.{seat_at, person_at, active_at, HasGrounds}
-use Rattle.tables.specs.Settings.{Setting, ByTable, GrantedBy, DeniedBy, MayStand}
+use Rattle.logs.specs.Moments.{Moment, ByTable, GrantedBy, DeniedBy, MayStand}
 use Rattle.logs.specs.Logs.{Plant, granted, clock_of, records_of, seat_of}
 use Rattle.logs.specs.Promises.{Held}
 use Rattle.logs.specs.Situations.{Situation, Answered}
@@ -23,7 +23,7 @@ use Rattle.logs.specs.declared.call.Call.TheVariants.{Open, Close, Take, Drop, L
 use Rattle.logs.specs.declared.reply.Reply.{Reply}
 
 module _ {V S : Type 0} (p : Plant V S) where
-  abbrev pub now_held : Held V → Setting V S
+  abbrev pub now_held : Held V → Moment V S
   now_held held = record { book = p.book; judge = p.judge; records = held.records; minute = held.clock }
 
   module _ (table : Seniority) where

@@ -6,18 +6,27 @@ mod who;
 mod words;
 
 use std::env;
+use std::process::ExitCode;
 
-fn main(rt: HostRuntime) -> anyhow::Result<()> {
+// What went wrong is on standard error by now, where it can be told at all.
+fn main(rt: HostRuntime) -> ExitCode {
+    match run(&rt) {
+        Ok(()) => ExitCode::SUCCESS,
+        Err(_) => ExitCode::FAILURE,
+    }
+}
+
+fn run(rt: &HostRuntime) -> anyhow::Result<()> {
     let mut given = Vec::new(rt.alloc());
-    for word in env::args(&rt)?.skip(1) {
+    for word in env::args(rt)?.skip(1) {
         given.push(word)?;
     }
     let Some(command) = given.first() else {
-        return demonstration::play(&rt);
+        return demonstration::play(rt);
     };
     match command.as_str() {
-        "book" => book::run(&rt, given.as_slice()),
-        "who" => who::run(&rt, given.as_slice()),
-        word => words::bad(&rt, "unknown command", word),
+        "book" => book::run(rt, given.as_slice()),
+        "who" => who::run(rt, given.as_slice()),
+        word => words::bad(rt, "unknown command", word),
     }
 }

@@ -1,10 +1,11 @@
 // The words that a person gives the command.
+use anyhow::anyhow;
 use sets::Set;
 
 // Names the word on standard error, and ends the command.
 pub fn bad(rt: &HostRuntime, what: &str, word: &str) -> anyhow::Result<()> {
     eprintln!(rt; "surtebbia: {what} '{word}'")?;
-    Err(what.into())
+    Err(anyhow!("{what}"))
 }
 
 // A list of numbers 0 to 63 with commas, `-` for none, `all` for all 64.
