@@ -10,16 +10,20 @@ use Rattle.rules.specs.Rules.{Book}
 use Rattle.tables.specs.declared.seat.Seat.{Seat}
 use Rattle.tables.specs.Loans.{standing, OnLoan as LentAlready}
 use Rattle.tables.specs.Panels.{person_of, active_of, active_at}
-use Rattle.tables.specs.Settings.{Setting, GrantedBy, DeniedBy, ByTable, Decided}
+use Rattle.tables.specs.Settings.{Setting, DeniedBy as DeniedIn}
+use Rattle.tables.specs.Verdicts.{Decided, Lowest}
+use Rattle.logs.specs.Moments.{Moment, GrantedBy, ByTable, by}
+use Rattle.logs.proofs.Alike.{lowest_over}
+use Rattle.logs.proofs.Moments.{granted_in, denied_in}
 use Rattle.logs.specs.declared.call.Call.TheVariants.{Take, Lend, Recall}
 use Rattle.logs.specs.declared.refusal.Refusal.{Refusal}
-use Rattle.logs.specs.declared.refusal.Refusal.TheVariants.{BorrowerIsLender, MinutesOutOfBounds, NotActive, NotEntitledByRules, NoSuchLoan, LoansFull}
+use Rattle.logs.specs.declared.refusal.Refusal.TheVariants.{BorrowerIsLender, MinutesOutOfBounds, NotActive, NotEntitledByRules, NoSuchLoan, BorrowerDenied, LoansFull}
 use Rattle.logs.specs.Situations.{Check, Situation, OnLoan, AtSeat, Ungranted, Overruled, only, no_panel, no_role, no_person, closed_panel, not_by_rules, checks}
 use Rattle.grader.specs.declared.grader.Grader.{Grader}
-use Rattle.grader.specs.Checks.{Passes, Refuses, Seated, OnGrounds, GrantedSeat, StopsByVerdict, FreeToBorrow, Lending, borrower_checks, facing, setting_of}
+use Rattle.grader.specs.Checks.{Passes, Refuses, Seated, OnGrounds, GrantedSeat, StopsByVerdict, FreeToBorrow, Lending, borrower_checks, facing, moment_of}
 
 -- to whom no rule grants the role, the policy says no
-no_grant : {V S : Type 0} (s : Setting V S) (table : Seniority) (person role : ℕ) → NothingGrantingIsNo s.judge → ((i : ℕ) → GrantedBy s person role i → ⊥) → ByTable s table person role → ⊥
+no_grant : {V S : Type 0} (s : Moment V S) (table : Seniority) (person role : ℕ) → NothingGrantingIsNo s.judge → ((i : ℕ) → GrantedBy s person role i → ⊥) → ByTable s table person role → ⊥
 no_grant s table person role never none by =
     let a = by.allowed in
     let out : (i : ℕ) → member a.granting i ≡ false = λ i.
@@ -39,23 +43,42 @@ module _ {P V S : Type 0} (b : Book V S) (judge : Judge) (table : Seniority) (g 
   lent_faced : (person role : ℕ) → LentAlready (standing g.loans) person role → OnLoan here person role
   lent_faced person role lent = record { loan = lent.loan; lent = lent.lent; stands = (lent.place, lent.found) }
 
-  -- by a ruling over the same setting and the same table
-  module _ (s : Setting V S) (same : s ≡ setting_of b judge vs g.clock) (person role : ℕ) where
-    pub not_denied : ((i : ℕ) → DeniedBy s person role i → ⊥) → (i : ℕ) → here.DeniedBy person role i → ⊥
-    not_denied none = subst (λ x. (i : ℕ) → DeniedBy x person role i → ⊥) same none
+  -- by a ruling over what is lent
+  module _ (s : Setting V S) (same : s ≡ by (moment_of b judge vs g.clock) table) (person role : ℕ) where
+    abbrev now : Moment V S
+    now = moment_of b judge vs g.clock
 
-    module _ (ranks : Seniority) (same_ranks : ranks ≡ table) (not_lent : LentAlready (standing g.loans) person role → ⊥) where
-      decided_here : (verdict : Verdict) → Decided s ranks person role verdict → Decided (setting_of b judge vs g.clock) table person role verdict
-      decided_here verdict d =
-          subst (λ x. Decided (setting_of b judge vs g.clock) x person role verdict) same_ranks (subst (λ x. Decided x ranks person role verdict) same d)
+    pub not_denied : ((i : ℕ) → DeniedIn s person role i → ⊥) → (i : ℕ) → here.DeniedBy person role i → ⊥
+    not_denied none i denied = subst (λ x. (i : ℕ) → DeniedIn x person role i → ⊥) same none i ((denied_in now table person role i).1 denied)
 
-      pub ungranted : Decided s ranks person role NothingGrants → Ungranted here role person
-      ungranted none = record { nothing_grants = decided_here NothingGrants none; not_on_loan = λ lent. not_lent (lent_held person role lent) }
+    pub lowest_denying : (i : ℕ) → Lowest (DeniedIn s person role) i → Lowest (here.DeniedBy person role) i
+    lowest_denying i low =
+        lowest_over (DeniedIn (by now table) person role) (here.DeniedBy person role) (denied_in now table person role) i
+        (subst (λ x. Lowest (DeniedIn x person role) i) same low)
 
-      pub overruled : (rule : ℕ) → Decided s ranks person role (Denied rule) → Overruled here role rule person
+    module _ (not_lent : LentAlready (standing g.loans) person role → ⊥) where
+      decided_here : (verdict : Verdict) → Decided s person role verdict → Decided (by now table) person role verdict
+      decided_here verdict d = subst (λ x. Decided x person role verdict) same d
+
+      pub ungranted : Decided s person role NothingGrants → Ungranted here role person
+      ungranted none = record {
+        nothing_grants = λ i granted. decided_here NothingGrants none i ((granted_in now table person role i).1 granted);
+        not_on_loan = λ lent. not_lent (lent_held person role lent);
+      }
+
+      pub overruled : (rule : ℕ) → Decided s person role (Denied rule) → Overruled here role rule person
       overruled rule denied =
           let d = decided_here (Denied rule) denied in
-          record { lowest = d.lowest; granting = d.granting; not_by_rules = d.refused; not_on_loan = λ lent. not_lent (lent_held person role lent) }
+          record {
+            lowest = lowest_over (DeniedIn (by now table) person role) (here.DeniedBy person role) (denied_in now table person role) rule d.lowest;
+            granting = (d.granting.0, (granted_in now table person role d.granting.0).0 d.granting.1);
+            not_by_rules = d.refused;
+            not_on_loan = λ lent. not_lent (lent_held person role lent);
+          }
+
+  pub denial_refuses : (borrower role : ℕ) → (LentAlready (standing g.loans) borrower role → ⊥) → (i : ℕ) → Lowest (here.DeniedBy borrower role) i →
+      Refuses (borrower_checks b judge table g vs borrower role) (BorrowerDenied i)
+  denial_refuses borrower role not_lent i low = inr ((λ _ w. not_lent (lent_held borrower role w.1)), inl (i, refl, low))
 
   module _
       (borrower role : ℕ) (not_lent : LentAlready (standing g.loans) borrower role → ⊥)
@@ -126,7 +149,7 @@ module _ {P V S : Type 0} (b : Book V S) (judge : Judge) (table : Seniority) (g 
         take_passes never grounds =
             let not_ungranted : Ungranted here role seat.person → ⊥ = λ none.
             ⊎_elim
-            (no_grant (setting_of b judge vs g.clock) table seat.person role never none.nothing_grants)
+            (no_grant (moment_of b judge vs g.clock) table seat.person role never none.nothing_grants)
             (λ lent. none.not_on_loan (lent_faced seat.person role lent))
             grounds in
             let not_overruled : (i : ℕ) → Overruled here role i seat.person → ⊥ = λ i over.

@@ -4,7 +4,7 @@ use Rattle.std.proofs.lemmas.Bool.Decides.{Decides-like}
 use Rattle.tables.specs.declared.loan.Loan.{Loan}
 use Rattle.tables.specs.Loans.{standing, Filtered, Lent, OnLoan}
 use Rattle.tables.specs.Panels.{active_at, Trimmed}
-use Rattle.tables.specs.Settings.{ByTable, MayStand}
+use Rattle.logs.specs.Moments.{ByTable, MayStand}
 use Rattle.tables.proofs.LoanLaws.{filtered_twice}
 use Rattle.logs.specs.declared.call.Call.{Call}
 use Rattle.logs.specs.declared.call.Call.TheVariants.{Recall, Enter, Tick}
@@ -12,14 +12,14 @@ use Rattle.logs.specs.Logs.{Plant, clock_of, records_of, seat_of}
 use Rattle.logs.specs.Promises.{Held}
 use Rattle.logs.specs.Steps.{now_held, SeatHasGrounds, RolesBecome, LoansBecome, Became}
 use Rattle.grader.specs.declared.grader.Grader.{Grader}
-use Rattle.grader.specs.Checks.{Settled, setting_of}
+use Rattle.grader.specs.Checks.{Settled, moment_of}
 use Rattle.grader.specs.Graders.{held}
 
 -- `from` is the grader as settling begins: the call has set the clock, or ended the loan that it recalls
 module _ {P V S : Type 0} (p : Plant V S) (from : Grader P) (records : List V) (new : Grader P) (settled : Settled p.book p.judge from records new) where
   -- settling leaves the clock as it is, so what it is done by is what holds after it
-  same_setting : setting_of p.book p.judge records from.clock ≡ now_held p (held new records)
-  same_setting = ap (setting_of p.book p.judge records) (sym settled.same_clock)
+  same_setting : moment_of p.book p.judge records from.clock ≡ now_held p (held new records)
+  same_setting = ap (moment_of p.book p.judge records) (sym settled.same_clock)
 
   loans_kept : Filtered (MayStand (now_held p (held new records)) from.senior) (standing from.loans) (standing new.loans)
   loans_kept = subst (λ s. Filtered (MayStand s from.senior) (standing from.loans) (standing new.loans)) same_setting settled.loans_kept

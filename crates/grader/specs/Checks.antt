@@ -13,7 +13,7 @@
 --     FreeToBorrow borrower role     the role is not on loan to the borrower, who meets no rule that denies it
 --     Lending panel borrower role minutes lender    the lender at the panel, and that the loan may stand
 --     StandsSo person role how        how the person stands to the role
---     setting_of b judge vs minute     a rulebook, a policy, records and a minute
+--     moment_of b judge vs minute     a rulebook, a policy, records and a minute
 --     Settled b judge old vs new       loans that may not stand have ended, then roles without grounds
 use Rattle.std.specs.Prelude.{◌≡◌, ℕ, ◌+◌, ◌<◌, ◌⊎◌, List, [], ◌∷◌, length, Some, Ok, Err, Result}
 use Rattle.rules.specs.declared.seniority.Seniority.{Seniority}
@@ -22,7 +22,8 @@ use Rattle.rules.specs.Rules.{Book}
 use Rattle.tables.specs.declared.seat.Seat.{Seat}
 use Rattle.tables.specs.Loans.{standing, Filtered, OnLoan as LentAlready}
 use Rattle.tables.specs.Panels.{seat_at, person_at, Trimmed}
-use Rattle.tables.specs.Settings.{Setting, ByTable, MayStand, Lowest}
+use Rattle.tables.specs.Verdicts.{Lowest}
+use Rattle.logs.specs.Moments.{Moment, ByTable, MayStand}
 use Rattle.logs.specs.declared.refusal.Refusal.{Refusal}
 use Rattle.logs.specs.declared.refusal.Refusal.TheVariants.{NothingGrants, RuleDenies, AlreadyLent, BorrowerDenied, LoansFull}
 use Rattle.logs.specs.declared.reply.Standing.{Standing}
@@ -94,13 +95,13 @@ module _ {P V S : Type 0} (b : Book V S) (judge : Judge) (table : Seniority) (g 
   abbrev pub StandsSo : ℕ → ℕ → Standing → Type 0
   StandsSo person role how = standing_in (facing b judge table g vs) person role how
 
-abbrev pub setting_of : {V S : Type 0} → Book V S → Judge → List V → ℕ → Setting V S
-setting_of b judge vs minute = record { book = b; judge = judge; records = vs; minute = minute }
+abbrev pub moment_of : {V S : Type 0} → Book V S → Judge → List V → ℕ → Moment V S
+moment_of b judge vs minute = record { book = b; judge = judge; records = vs; minute = minute }
 
 pub record Settled {P V S : Type 0} (b : Book V S) (judge : Judge) (old : Grader P) (vs : List V) (new : Grader P) : Type 0 where
   pub stays : Keeps old new
   pub same_clock : new.clock ≡ old.clock
-  pub loans_kept : Filtered (MayStand (setting_of b judge vs old.clock) old.senior) (standing old.loans) (standing new.loans)
+  pub loans_kept : Filtered (MayStand (moment_of b judge vs old.clock) old.senior) (standing old.loans) (standing new.loans)
   pub roles_kept :
-      Trimmed (λ person role. ByTable (setting_of b judge vs old.clock) old.senior person role ⊎ LentAlready (standing new.loans) person role)
+      Trimmed (λ person role. ByTable (moment_of b judge vs old.clock) old.senior person role ⊎ LentAlready (standing new.loans) person role)
       old.panels.seats new.panels.seats

@@ -55,7 +55,7 @@ same_rule e f = ((λ h. (h.0, h.1, (e h.0).0 h.2)), (λ h. (h.0, h.1, (e h.0).1 
 
 -- WORDS
 
-lowest_over : (In Also : ℕ → Type 0) → ((i : ℕ) → In i ↔ Also i) → (i : ℕ) → Lowest In i → Lowest Also i
+pub lowest_over : (In Also : ℕ → Type 0) → ((i : ℕ) → In i ↔ Also i) → (i : ℕ) → Lowest In i → Lowest Also i
 lowest_over In Also e i h = record { held = (e i).0 h.held; none_lower = λ j lt held. h.none_lower j lt ((e j).1 held) }
 
 module _ {V : Type 0} where

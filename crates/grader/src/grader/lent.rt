@@ -1,5 +1,7 @@
 ghost use Rattle.std.specs.Prelude.{◌≡◌};
-ghost use Rattle.tables.specs.Settings.{setting, ranks};
+ghost use Rattle.tables.specs.Settings.{setting};
+ghost use Rattle.logs.specs.Moments.{by};
+ghost use Rattle.grader.specs.Checks.{moment_of};
 ghost use Rattle.grader.specs.Graders.{book_of};
 
 use book::Sealed;
@@ -17,8 +19,7 @@ pub(super) fn ruling<'a, K: Kind, P: Policy>(
     senior: &'a Seniority,
     clock: u32,
 ) -> Ruling<'a, K, P>
-    ensures rules_by_what_is_lent { setting K.meaning P.judge result ≡ record { book = book_of K.meaning book.entry.now rules.now entries.now; judge = P.judge policy.now; records = register.now; minute = clock } }
-    ensures ranks_by_the_table { ranks result ≡ senior.now }
+    ensures rules_by_what_is_lent { setting K.meaning P.judge result ≡ by (moment_of (book_of K.meaning book.entry.now rules.now entries.now) (P.judge policy.now) register.now clock) senior.now }
 {
     Ruling {
         view: book.view::<K>(rules, entries),

@@ -1,9 +1,9 @@
 ghost use Rattle.std.specs.Prelude.{◌≡◌, ℕ, ◌⊎◌, List};
 ghost use Rattle.tables.specs.Loans.{standing, OnLoan, Filtered};
 ghost use Rattle.tables.specs.Panels.{Trimmed};
-ghost use Rattle.tables.specs.Settings.{ByTable, MayStand};
+ghost use Rattle.logs.specs.Moments.{ByTable, MayStand};
 ghost use Rattle.logs.specs.declared.call.Call.TheVariants.{Enter, Tick};
-ghost use Rattle.grader.specs.Checks.{Settled, setting_of};
+ghost use Rattle.grader.specs.Checks.{Settled, moment_of};
 ghost use Rattle.grader.specs.Graders.{Keeps, Does, Carries, over, book_of, reply};
 
 use super::Grader;
@@ -97,8 +97,8 @@ fn settle_tables<'a, K: Kind, P: Policy>(
     panels: &mut Panels,
     loans: &mut Loans,
 )
-    ensures keeps_exactly_the_loans_that_may_stand { Filtered (MayStand (setting_of (book_of K.meaning book.now rules.now entries.now) (P.judge policy.now) register.now clock) senior.now) (standing loans.old) (standing loans.new) }
-    ensures keeps_exactly_the_roles_with_grounds { Trimmed (λ person role. ByTable (setting_of (book_of K.meaning book.now rules.now entries.now) (P.judge policy.now) register.now clock) senior.now person role ⊎ OnLoan (standing loans.new) person role) panels.old.seats panels.new.seats }
+    ensures keeps_exactly_the_loans_that_may_stand { Filtered (MayStand (moment_of (book_of K.meaning book.now rules.now entries.now) (P.judge policy.now) register.now clock) senior.now) (standing loans.old) (standing loans.new) }
+    ensures keeps_exactly_the_roles_with_grounds { Trimmed (λ person role. ByTable (moment_of (book_of K.meaning book.now rules.now entries.now) (P.judge policy.now) register.now clock) senior.now person role ⊎ OnLoan (standing loans.new) person role) panels.old.seats panels.new.seats }
 {
     let ruling = ruling::<K, P>(book, rules, entries, register, policy, senior, clock);
     loans.retain(&ruling);

@@ -7,7 +7,7 @@ pub returns-else-on_loan : goal.returns-else-on_loan
 returns-else-on_loan g c = record {
   refused_without_grounds = inl (
     refl,
-    ungranted _ _ _ c.args.self.now _ _ c.ruling-ruling.ensures.rules_by_what_is_lent c.args.person c.args.role _ c.ruling-ruling.ensures.ranks_by_the_table
+    ungranted _ _ _ c.args.self.now _ _ c.ruling-ruling.ensures.rules_by_what_is_lent c.args.person c.args.role
         (not_from_Decides c.has-on_loan.result c.has-on_loan.ensures.tells_whether_such_a_loan_stands c.if-on_loan.false)
         c.in-NothingGrants.ensures.entitled_exactly_when_the_policy_says_yes,
   );
@@ -18,7 +18,7 @@ returns-else-on_loan-2 g c = record {
   refused_without_grounds = inr (
     c.in-Denied.rule,
     refl,
-    overruled _ _ _ c.args.self.now _ _ c.ruling-ruling.ensures.rules_by_what_is_lent c.args.person c.args.role _ c.ruling-ruling.ensures.ranks_by_the_table
+    overruled _ _ _ c.args.self.now _ _ c.ruling-ruling.ensures.rules_by_what_is_lent c.args.person c.args.role
         (not_from_Decides c.has-on_loan.result c.has-on_loan.ensures.tells_whether_such_a_loan_stands c.if-on_loan-2.false)
         c.in-Denied.rule c.in-Denied.ensures.entitled_exactly_when_the_policy_says_yes,
   );
