@@ -13,7 +13,8 @@ use Rattle.rules.specs.Rules.{Senior, Permitted, Denying, Allowed}
 use Rattle.rules.specs.Verdicts.{judge_of}
 use Rattle.rules.proofs.Computing.{some_below_is, some-rule, is_over, is_over_is, some_granting_is, says, says_is}
 use Rattle.rules.proofs.Deciding.{passes, passes_is, is_granting, is_denying, is_denying_is}
-use Rattle.tables.specs.Settings.{Setting, ByRules, GrantedBy, DeniedBy, Lowest}
+use Rattle.tables.specs.Verdicts.{Lowest}
+use Rattle.logs.specs.Moments.{Moment, ByRules, GrantedBy, DeniedBy}
 use Rattle.logs.specs.Logs.{moment}
 use Rattle.hall.specs.SmallHall.{small_rules, small_register}
 use Rattle.hall.specs.WorkedCases.{Record, Test, hall_meaning, small_book, small_plant}
@@ -37,7 +38,7 @@ pub over_is : (i j : ℕ) → Decides (over i j) (Senior small_book i j)
 over_is = is_over_is small_book implies implies_is
 
 module _ (policy : Shipped) (now : ℕ) where
-  abbrev pub here : Setting Record Test
+  abbrev pub here : Moment Record Test
   here = moment (small_plant policy now) []
 
   module _ (person role : ℕ) where

@@ -28,7 +28,7 @@ use Rattle.book.specs.declared.faults.FileFault.{FileFault}
 use Rattle.book.specs.declared.opened.Opened.{Opened}
 use Rattle.book.specs.Faults.{number_of}
 use Rattle.book.specs.Files.{Outcome}
-use Rattle.tables.specs.Settings.{ByRules}
+use Rattle.logs.specs.Moments.{ByRules}
 use Rattle.logs.specs.declared.call.Call.TheVariants.{Open, Take}
 use Rattle.logs.specs.declared.refusal.Refusal.{Refusal}
 use Rattle.logs.specs.declared.refusal.Refusal.TheVariants.{NothingGrants, RuleDenies}
