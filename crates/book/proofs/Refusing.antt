@@ -1,5 +1,5 @@
 -- Why a record has no place in the rulebook: from the reader's answer to the words, and back.
-use Rattle.std.proofs.Common.{◌≡◌, ℕ, ◌≤◌, true, false, ltb, ◌⊎◌, List, [], length, Err, Result, sym, refl, ap, ◌∙◌, inl, inr, ⊎_elim, arith}
+use Rattle.std.proofs.Common.{◌≡◌, ℕ, ◌≤◌, true, false, ltb, ◌⊎◌, List, length, Err, Result, sym, refl, ap, ◌∙◌, inl, inr, ⊎_elim, arith}
 use Rattle.std.proofs.lemmas.Bool.{both_ways, cond-true, cond-false, and_cases, and_left, and_right, ltb-false, le-ltb}
 use Rattle.rules.specs.declared.entry.Entry.{Entry}
 use Rattle.rules.specs.declared.rule.Rule.{Rule}
@@ -78,8 +78,8 @@ module _ {S : Type 0} (m n : ℕ) where
 
   -- after it
   module _ (c : Progress S) (begun : c.begun ≡ true) where
-    rule-answer : (r : Rule S) (f : BookFault) → accepts m n c (NewRule r) ≡ Err f → (one_more 64 m c.rules ≡ false) × (Full ≡ f)
-    rule-answer r f e = only_err (one_more 64 m c.rules) _ Full f (sym (cond-true c.begun _ _ begun) ∙ e)
+    rule_answer : (r : Rule S) (f : BookFault) → accepts m n c (NewRule r) ≡ Err f → (one_more 64 m c.rules ≡ false) × (Full ≡ f)
+    rule_answer r f e = only_err (one_more 64 m c.rules) _ Full f (sym (cond-true c.begun _ _ begun) ∙ e)
 
     entry_answer : (x : Entry) (f : BookFault) → accepts m n c (NewEntry x) ≡ Err f → (one_more 32 n c.entries ≡ false) × (Full ≡ f)
     entry_answer x f e = only_err (one_more 32 n c.entries) _ Full f (sym (cond-true c.begun _ _ begun) ∙ e)
@@ -87,7 +87,7 @@ module _ {S : Type 0} (m n : ℕ) where
     pub later_misplaced : (x : Content S) → accepts m n c x ≡ Err HeaderMisplaced → (h : Header) × (x ≡ Heading h)
     later_misplaced Filler e = absurd (both_ways c.begun (only_err c.begun _ HeaderMisplaced HeaderMisplaced e).0 begun)
     later_misplaced (Heading g) e = (g, refl)
-    later_misplaced (NewRule r) e = absurd (unlike_full (rule-answer r HeaderMisplaced e).1)
+    later_misplaced (NewRule r) e = absurd (unlike_full (rule_answer r HeaderMisplaced e).1)
     later_misplaced (NewEntry x) e = absurd (unlike_full (entry_answer x HeaderMisplaced e).1)
     later_misplaced End e = absurd (both_ways c.begun (only_err c.begun _ HeaderMisplaced HeaderMisplaced e).0 begun)
 
@@ -97,7 +97,7 @@ module _ {S : Type 0} (m n : ℕ) where
     pub later_unknown : (x : Content S) → accepts m n c x ≡ Err HeaderUnknown → ⊥
     later_unknown Filler e = both_ways c.begun (only_err c.begun _ HeaderMisplaced HeaderUnknown e).0 begun
     later_unknown (Heading g) e = misplaced_unknown (same_err _ _ (sym (cond-true c.begun _ _ begun) ∙ e))
-    later_unknown (NewRule r) e = full_unknown (rule-answer r HeaderUnknown e).1
+    later_unknown (NewRule r) e = full_unknown (rule_answer r HeaderUnknown e).1
     later_unknown (NewEntry x) e = full_unknown (entry_answer x HeaderUnknown e).1
     later_unknown End e = both_ways c.begun (only_err c.begun _ HeaderMisplaced HeaderUnknown e).0 begun
 
@@ -107,7 +107,7 @@ module _ {S : Type 0} (m n : ℕ) where
     pub later_full : (x : Content S) → accepts m n c x ≡ Err Full → Overfull x
     later_full Filler e = absurd (both_ways c.begun (only_err c.begun _ HeaderMisplaced Full e).0 begun)
     later_full (Heading g) e = absurd (misplaced_full (same_err _ _ (sym (cond-true c.begun _ _ begun) ∙ e)))
-    later_full (NewRule r) e = inl (r, refl, no_room 64 m c.rules (rule-answer r Full e).0)
+    later_full (NewRule r) e = inl (r, refl, no_room 64 m c.rules (rule_answer r Full e).0)
     later_full (NewEntry x) e = inr (x, refl, no_room 32 n c.entries (entry_answer x Full e).0)
     later_full End e = absurd (both_ways c.begun (only_err c.begun _ HeaderMisplaced Full e).0 begun)
 

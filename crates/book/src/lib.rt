@@ -1,4 +1,6 @@
 // Rulebooks: drafts, sealed books, and the rulebook file.
+#![tactic(auto)]
+
 mod check;
 mod contents;
 mod draft;

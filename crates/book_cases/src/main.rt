@@ -2,6 +2,8 @@
 //
 // A line is a name, the memory for rules and for entries, and the file's bytes: words of hexadecimal digits, each perhaps
 // followed by `x` and how often it stands there. `#` begins a comment.
+#![tactic(auto)]
+
 mod bytes;
 mod drafts;
 

@@ -110,11 +110,11 @@ module _ {P V S : Type 0} (b : Book V S) (judge : Judge) (table : Seniority) (g 
       at_seat : (What : ℕ → Type 0) → What seat.person → AtSeat here panel What
       at_seat What holds = record { person = seat.person; seated = person_there; holds = holds }
 
-      seated-one : (person : ℕ) → here.seat panel ≡ Some person → person ≡ seat.person
-      seated-one person e = let there = person_there in cc
+      seated_one : (person : ℕ) → here.seat panel ≡ Some person → person ≡ seat.person
+      seated_one person e = let there = person_there in cc
 
       of_seat : (What : ℕ → Type 0) → AtSeat here panel What → What seat.person
-      of_seat What w = subst What (seated-one w.person w.seated) w.holds
+      of_seat What w = subst What (seated_one w.person w.seated) w.holds
 
       active_here : active_at g.panels.seats panel role ≡ member seat.active role
       active_here = ap (λ x. active_of x role) found.1
@@ -207,7 +207,7 @@ module _ {P V S : Type 0} (b : Book V S) (judge : Judge) (table : Seniority) (g 
           active_checks = only NotActive (active_at g.panels.seats panel role ≡ true → ⊥) ∷ grounds_checks
 
           to_lender : here.seat panel ≡ Some borrower → seat.person ≡ borrower
-          to_lender e = sym (seated-one borrower e)
+          to_lender e = sym (seated_one borrower e)
 
           pub lend_terms : (f : Refusal) → Refuses (term_checks (seat.person ≡ borrower) []) f → Refuses (checks here (Lend panel borrower role minutes)) f
           lend_terms f refused =

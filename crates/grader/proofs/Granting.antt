@@ -13,7 +13,7 @@ use Rattle.logs.specs.declared.call.Call.TheVariants.{Open, Close, Take, Drop, L
 use Rattle.logs.specs.Logs.{Plant}
 use Rattle.logs.specs.Promises.{Held}
 use Rattle.logs.specs.Steps.{Became, Grounds, now_held}
-use Rattle.grader.proofs.PanelChanges.{person-after, same_person_after, emptied, one_more, one_less}
+use Rattle.grader.proofs.PanelChanges.{person_after, same_person_after, emptied, one_more, one_less}
 
 module _ {V S : Type 0} (p : Plant V S) (table : Seniority) (old : Held V) where
   -- one panel is written
@@ -26,7 +26,7 @@ module _ {V S : Type 0} (p : Plant V S) (table : Seniority) (old : Held V) where
       clock_set = refl;
       records_set = refl;
       panels_there = ap length written ∙ length-set old.panels panel seat;
-      seats_set = λ at. ap (λ xs. person_at xs at) written ∙ (person-after old.panels panel seat there at ∙ ap (λ x. cond (eqb panel at) x (person_at old.panels at)) who);
+      seats_set = λ at. ap (λ xs. person_at xs at) written ∙ (person_after old.panels panel seat there at ∙ ap (λ x. cond (eqb panel at) x (person_at old.panels at)) who);
       roles_set = subst (λ xs. (at role : ℕ) → Decides (active_at xs at role) ((at ≡ panel → ⊥) × (active_at old.panels at role ≡ true))) (sym written) (emptied old.panels panel seat there none);
       loans_set = refl;
     }
@@ -36,7 +36,7 @@ module _ {V S : Type 0} (p : Plant V S) (table : Seniority) (old : Held V) where
       clock_set = refl;
       records_set = refl;
       panels_there = ap length written ∙ length-set old.panels panel seat;
-      seats_set = λ at. ap (λ xs. person_at xs at) written ∙ (person-after old.panels panel seat there at ∙ ap (λ x. cond (eqb panel at) (person_of x) (person_at old.panels at)) gone);
+      seats_set = λ at. ap (λ xs. person_at xs at) written ∙ (person_after old.panels panel seat there at ∙ ap (λ x. cond (eqb panel at) (person_of x) (person_at old.panels at)) gone);
       roles_set = subst (λ xs. (at role : ℕ) → Decides (active_at xs at role) ((at ≡ panel → ⊥) × (active_at old.panels at role ≡ true))) (sym written) (emptied old.panels panel seat there (λ role. ap (λ x. active_of x role) gone));
       loans_set = refl;
     }

@@ -1,5 +1,5 @@
 -- What the panels hold after one place of them was written.
-use Rattle.std.proofs.Common.{◌≡◌, ℕ, ◌<◌, ◌≤◌, Bool, true, false, cond, not, ◌&&◌, ◌||◌, eqb, ltb, ◌⊎◌, List, length, set, Some, None, Decides, Option, sym, refl, ap, ◌∙◌, inl, inr, ⊎_elim, arith}
+use Rattle.std.proofs.Common.{◌≡◌, ℕ, ◌<◌, true, false, cond, not, ◌&&◌, ◌||◌, eqb, ltb, ◌⊎◌, List, length, set, Decides, Option, sym, refl, ap, ◌∙◌, inl, inr, ⊎_elim, arith}
 use Rattle.std.proofs.lemmas.Bool.{and_from, and_parts, both_ways, cases_eq, cond-false, cond-true, eq-eqb, eqb-true, lt-ltb, ne_eqb, not_from_false, not_from_true, or_cases, or_left, or_right}
 use Rattle.rules.proofs.Places.{found_set, found_other}
 use Rattle.tables.specs.declared.seat.Seat.{Seat}
@@ -13,8 +13,8 @@ module _ (seats : List (Option Seat)) (panel : ℕ) (seat : Option Seat) (there 
   seat_elsewhere at other = ap seated (found_other seats panel at seat other)
 
   -- another person, or none, is at the panel
-  pub person-after : (at : ℕ) → person_at (set seats panel seat) at ≡ cond (eqb panel at) (person_of seat) (person_at seats at)
-  person-after at =
+  pub person_after : (at : ℕ) → person_at (set seats panel seat) at ≡ cond (eqb panel at) (person_of seat) (person_at seats at)
+  person_after at =
       ⊎_elim
       (λ e. ap person_of (seat_here at (sym e)) ∙ sym (cond-true (eqb panel at) (person_of seat) (person_at seats at) (eq-eqb panel at e)))
       (λ n. ap person_of (seat_elsewhere at (λ e. n (sym e))) ∙ sym (cond-false (eqb panel at) (person_of seat) (person_at seats at) (ne_eqb panel at n)))

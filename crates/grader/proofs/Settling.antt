@@ -43,11 +43,11 @@ module _ {P V S : Type 0} (p : Plant V S) (from : Grader P) (records : List V) (
       ((at role : ℕ) (b : Bool) → Decides b ((active_at from.panels.seats at role ≡ true) × SeatHasGrounds p from.senior (held new records) at role) → Decides b (RolesBecome p from.senior old call (held new records) at role)) →
       LoansBecome p from.senior old call (held new records) →
       Became p from.senior old call (held new records)
-  became call clock before loans clock_set records_set seats-stay roles_set loans_set = record {
+  became call clock before loans clock_set records_set seats_stay roles_set loans_set = record {
     clock_set = settled.same_clock ∙ clock_set;
     records_set = records_set;
     panels_there = settled.roles_kept.panels_there;
-    seats_set = λ at. settled.roles_kept.same_persons at ∙ seats-stay at _;
+    seats_set = λ at. settled.roles_kept.same_persons at ∙ seats_stay at _;
     roles_set = λ at role. roles_set at role _ (roles_kept at role);
     loans_set = loans_set;
   }

@@ -15,7 +15,7 @@
 --     StandsSo person role how        how the person stands to the role
 --     moment_of b judge vs minute     a rulebook, a policy, records and a minute
 --     Settled b judge old vs new       loans that may not stand have ended, then roles without grounds
-use Rattle.std.specs.Prelude.{◌≡◌, ℕ, ◌+◌, ◌<◌, ◌⊎◌, List, [], ◌∷◌, length, Some, Ok, Err, Result}
+use Rattle.std.specs.Prelude.{◌≡◌, ℕ, ◌<◌, ◌⊎◌, List, [], ◌∷◌, length, Some, Ok, Err, Result}
 use Rattle.rules.specs.declared.seniority.Seniority.{Seniority}
 use Rattle.rules.specs.Policies.{Judge}
 use Rattle.rules.specs.Rules.{Book}

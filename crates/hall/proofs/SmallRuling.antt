@@ -11,7 +11,7 @@ use Rattle.kinds.specs.KindLaws.{certificates_met, certificates_implied, site_me
 use Rattle.rules.specs.declared.shipped.Shipped.{Shipped}
 use Rattle.rules.specs.Rules.{Senior, Permitted, Denying, Allowed}
 use Rattle.rules.specs.Verdicts.{judge_of}
-use Rattle.rules.proofs.Computing.{some_below_is, some-rule, is_over, is_over_is, some_granting_is, says, says_is}
+use Rattle.rules.proofs.Computing.{some_below_is, some_rule, is_over, is_over_is, some_granting_is, says, says_is}
 use Rattle.rules.proofs.Deciding.{passes, passes_is, is_granting, is_denying, is_denying_is}
 use Rattle.tables.specs.Verdicts.{Lowest}
 use Rattle.logs.specs.Moments.{Moment, ByRules, GrantedBy, DeniedBy}
@@ -52,7 +52,7 @@ module _ (policy : Shipped) (now : ℕ) where
         (passes_is _ (λ v. Allowed small_book (judge_of policy) v role now) (λ v. says_is small_book implies implies_is v role now few policy) (slice_get small_register person))
 
     abbrev pub granted : Bool
-    granted = passes (λ v. some-rule small_book (is_granting small_book v role now)) (slice_get small_register person)
+    granted = passes (λ v. some_rule small_book (is_granting small_book v role now)) (slice_get small_register person)
 
     pub granted_is : Decides granted ((i : ℕ) × GrantedBy here person role i)
     granted_is = Decides-like granted

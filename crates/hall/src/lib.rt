@@ -1,4 +1,6 @@
 // The record of a hall, the small hall of docs/MODEL.md, memory for a hall's rulebook, and how rules and entries are shown.
+#![tactic(auto)]
+
 mod cases;
 mod memory;
 mod record;

@@ -5,7 +5,7 @@ use Rattle.std.proofs.lemmas.Bool.{and_from, and_parts, and_right, cases_Bool, b
 use Rattle.std.proofs.lemmas.Bool.Decides.{Decides-like}
 use Rattle.sets.specs.declared.set.Set.{Set}
 use Rattle.sets.specs.Members.{member, empty, subset}
-use Rattle.sets.proofs.MemberLaws.{member_below, subset_decides, some-member, member-not-empty}
+use Rattle.sets.proofs.MemberLaws.{member_below, subset_decides, some_member, member-not-empty}
 use Rattle.kinds.specs.Kinds.{Meaning, Implied, EveryLawfulTestIsMet}
 use Rattle.kinds.specs.Shipped.{certificates, site, pair}
 
@@ -29,7 +29,7 @@ certificates_implied s t r e = (
 -- sites
 pub site_met : EveryLawfulTestIsMet site
 site_met t e =
-    let w = some-member t (not-true (empty t) e) in
+    let w = some_member t (not-true (empty t) e) in
     (w.0, lt-ltb w.0 64 (member_below t w.0 w.1), w.1)
 
 pub site_meets : (v : ℕ) (t : Set) → member t v ≡ (nat_lt v 64 && (not (empty t) && member t v))
@@ -43,7 +43,7 @@ pub site_implied : (s t : Set) (r : Bool) → empty s ≡ false → r ≡ subset
 site_implied s t r some e = (
   (λ y.
       let all = (subset_decides s t).0 (sym e ∙ y) in
-      let w = some-member s some in
+      let w = some_member s some in
       record {
         first_lawful = not_from_false (empty s) some;
         second_lawful = not_from_false (empty t) (member-not-empty t w.0 (all w.0 w.1));

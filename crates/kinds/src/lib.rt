@@ -1,4 +1,6 @@
 // Attribute kinds: what a record may hold, and which tests rules may put to it.
+#![tactic(auto)]
+
 mod certificates;
 mod file_kind;
 mod kind;

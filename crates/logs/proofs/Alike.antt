@@ -76,8 +76,8 @@ module _ {V : Type 0} where
   loan_over : (s t : Situation V) → Alike s t → (person role : ℕ) → OnLoan s person role → OnLoan t person role
   loan_over s t a person role h = record { loan = h.loan; lent = h.lent; stands = (a.same_stands h.loan).0 h.stands }
 
-  seat-over : (s t : Situation V) → Alike s t → (panel : ℕ) (P Q : ℕ → Type 0) → ((who : ℕ) → P who → Q who) → AtSeat s panel P → AtSeat t panel Q
-  seat-over s t a panel P Q over h = record { person = h.person; seated = sym (a.same_seat panel) ∙ h.seated; holds = over h.person h.holds }
+  seat_over : (s t : Situation V) → Alike s t → (panel : ℕ) (P Q : ℕ → Type 0) → ((who : ℕ) → P who → Q who) → AtSeat s panel P → AtSeat t panel Q
+  seat_over s t a panel P Q over h = record { person = h.person; seated = sym (a.same_seat panel) ∙ h.seated; holds = over h.person h.holds }
 
   ungranted_over : (s t : Situation V) → Alike s t → (role who : ℕ) → Ungranted s role who → Ungranted t role who
   ungranted_over s t a role who h = record {
@@ -98,7 +98,7 @@ module _ {V : Type 0} (s t : Situation V) (a : Alike s t) where
   loan_same person role = (loan_over s t a person role, loan_over t s (back s t a) person role)
 
   seat_same : (panel : ℕ) (P Q : ℕ → Type 0) → ((who : ℕ) → P who ↔ Q who) → AtSeat s panel P ↔ AtSeat t panel Q
-  seat_same panel P Q e = (seat-over s t a panel P Q (λ who. (e who).0), seat-over t s (back s t a) panel Q P (λ who. (e who).1))
+  seat_same panel P Q e = (seat_over s t a panel P Q (λ who. (e who).0), seat_over t s (back s t a) panel Q P (λ who. (e who).1))
 
   ungranted_same : (role who : ℕ) → Ungranted s role who ↔ Ungranted t role who
   ungranted_same role who = (ungranted_over s t a role who, ungranted_over t s (back s t a) role who)
@@ -182,23 +182,23 @@ module _ {V : Type 0} (s t : Situation V) (a : Alike s t) where
 
   -- THE ANSWERS
 
-  standing-over : (person role : ℕ) (how : Standing) → standing s person role how → standing t person role how
-  standing-over person role ByRules h = (a.same_by_rules person role).0 h
-  standing-over person role ByLoan h = ((Iff.not (a.same_by_rules person role)).0 h.0, (loan_same person role).0 h.1)
-  standing-over person role Neither h = λ e. h (⊎_map (a.same_by_rules person role).1 (loan_same person role).1 e)
+  standing_over : (person role : ℕ) (how : Standing) → standing s person role how → standing t person role how
+  standing_over person role ByRules h = (a.same_by_rules person role).0 h
+  standing_over person role ByLoan h = ((Iff.not (a.same_by_rules person role)).0 h.0, (loan_same person role).0 h.1)
+  standing_over person role Neither h = λ e. h (⊎_map (a.same_by_rules person role).1 (loan_same person role).1 e)
 
-  answer-over : (call : Call V) (r : Reply) → answer s call r → answer t call r
-  answer-over (Open panel person) r h = h
-  answer-over (Close panel) r h = h
-  answer-over (Take panel role) r h = h
-  answer-over (Drop panel role) r h = h
-  answer-over (Lend panel borrower role minutes) r h = h
-  answer-over (Recall panel borrower role) r h = h
-  answer-over (Enter person value) r h = h
-  answer-over (Tick minute) r h = h
-  answer-over (Entitled person role) r h = (h.0, h.1, standing-over person role h.0 h.2)
-  answer-over (Roles panel) r h =
+  answer_over : (call : Call V) (r : Reply) → answer s call r → answer t call r
+  answer_over (Open panel person) r h = h
+  answer_over (Close panel) r h = h
+  answer_over (Take panel role) r h = h
+  answer_over (Drop panel role) r h = h
+  answer_over (Lend panel borrower role minutes) r h = h
+  answer_over (Recall panel borrower role) r h = h
+  answer_over (Enter person value) r h = h
+  answer_over (Tick minute) r h = h
+  answer_over (Entitled person role) r h = (h.0, h.1, standing_over person role h.0 h.2)
+  answer_over (Roles panel) r h =
       (h.0, h.1, λ role. Decides-like (member h.0 role) (a.same_active panel role).0 (a.same_active panel role).1 (h.2 role))
 
   pub answered_alike : (call : Call V) (r : Reply) → Answered s call r → Answered t call r
-  answered_alike call r = first_over (answer s call) (answer t call) r (same_checks call) (answer-over call r)
+  answered_alike call r = first_over (answer s call) (answer t call) r (same_checks call) (answer_over call r)

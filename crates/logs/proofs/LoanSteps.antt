@@ -84,7 +84,7 @@ module _ {V S : Type 0} (p : Plant V S) (table : Seniority) (e : Exchange V) (lo
 
     pub loans_lent : (new : List Loan) (x : Loan) → MadeBy p x (e ∷ log) → ((loan : Loan) → MadeBy p loan (e ∷ log) → x ≡ loan) →
         new ≡ old ++ x ∷ [] → MayStand (moment p log) table x → (OnLoan old x.borrower x.role → ⊥) → LoansFollow old new
-    loans_lent new x made only same may-x unlent = subst (LoansFollow old) (sym same) (record {
+    loans_lent new x made only same may_x unlent = subst (LoansFollow old) (sym same) (record {
       made_there = λ loan m. subst (There (old ++ x ∷ [])) (only loan m) (last_there old x);
       made_or_kept = λ loan there. ⊎_elim
           (λ at. inr ((there.0, at), unrecalled loan))
@@ -92,7 +92,7 @@ module _ {V S : Type 0} (p : Plant V S) (table : Seniority) (e : Exchange V) (lo
           (front_or_last old x loan there.0 there.1);
       may_stand = λ loan there. ⊎_elim
           (λ at. may_still still loan (may loan (there.0, at)))
-          (λ at. subst MayStandNow at.1 (may_still still x may-x))
+          (λ at. subst MayStandNow at.1 (may_still still x may_x))
           (front_or_last old x loan there.0 there.1);
       kept_or_ended = λ loan there. inl (front_there old x loan there);
       apart = λ i j a b at_i at_j alike. ⊎_elim

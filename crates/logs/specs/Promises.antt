@@ -22,7 +22,7 @@ use Rattle.tables.specs.Panels.{person_at, active_at}
 use Rattle.logs.specs.Moments.{ByRules, MayStand}
 use Rattle.logs.specs.Logs.{Plant, Log, clock, records, seat, moment, after, AllAnswered, StandsAfter, SeatEntitled, ActiveAfter}
 use Rattle.logs.specs.Refusals.{number}
-use Rattle.logs.specs.Situations.{Situation, Check, checks, making}
+use Rattle.logs.specs.Situations.{Check, checks, making}
 use Rattle.logs.specs.declared.call.Call.{Call}
 use Rattle.logs.specs.declared.exchange.Exchange.{Exchange}
 use Rattle.logs.specs.declared.refusal.Refusal.{Refusal}

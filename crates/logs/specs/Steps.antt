@@ -8,10 +8,9 @@
 --     LoansBecome old call new              the loans that stand after the granted call
 --     Became table old call new              what is held after a granted call
 --     Performed table old call r new         the reply to a call, and what is held after it
-use Rattle.std.specs.Prelude.{◌≡◌, ℕ, ◌+◌, ◌<◌, ◌≤◌, true, false, ◌⊎◌, List, [], ◌∷◌, ◌++◌, length, Some, Decides, ◌≢◌}
+use Rattle.std.specs.Prelude.{◌≡◌, ℕ, ◌+◌, ◌≤◌, true, false, ◌⊎◌, [], ◌∷◌, ◌++◌, length, Some, Decides, ◌≢◌}
 use Rattle.std.specs.List.{slice_get}
 use Rattle.rules.specs.declared.seniority.Seniority.{Seniority}
-use Rattle.tables.specs.declared.loan.Loan.{Loan}
 use Rattle.tables.specs.Loans.{Lent, OnLoan, Filtered}
 use Rattle.tables.specs.Panels.{seat_at, person_at, active_at, HasGrounds}
 use Rattle.logs.specs.Moments.{Moment, ByTable, GrantedBy, DeniedBy, MayStand}

@@ -1,4 +1,6 @@
 // The calls of a grader with the replies to them, and what every list of them means.
+#![tactic(auto)]
+
 mod call;
 mod exchange;
 mod refusal;

@@ -26,18 +26,18 @@ alike : {P Q : Type 0} (r s : Bool) → Decides r P → Decides s P → Decides 
 alike r s dr ds dq = ((λ e. dq.0 (dr.1 (ds.0 e))), (λ q. ds.1 (dr.0 (dq.1 q))))
 
 module _ {V S : Type 0} (b : Book V S) where
-  abbrev pub some-rule : (ℕ → Bool) → Bool
-  some-rule f = some_below (length b.rules) f
+  abbrev pub some_rule : (ℕ → Bool) → Bool
+  some_rule f = some_below (length b.rules) f
 
   module _ (v : V) (role : ℕ) where
-    some_denying_is : Decides (some-rule (is_denying b v role)) ((i : ℕ) × Denying b v role i)
-    some_denying_is = Decides-like (some-rule (is_denying b v role))
+    some_denying_is : Decides (some_rule (is_denying b v role)) ((i : ℕ) × Denying b v role i)
+    some_denying_is = Decides-like (some_rule (is_denying b v role))
         (λ w. (w.0, w.2))
         (λ w. (w.0, met_within b v w.0 w.1.0, w.1))
         (some_below_is (length b.rules) (is_denying b v role) (Denying b v role) (is_denying_is b v role))
 
-    pub some_granting_is : (minute : ℕ) → Decides (some-rule (is_granting b v role minute)) (Permitted b v role minute)
-    some_granting_is minute = Decides-like (some-rule (is_granting b v role minute))
+    pub some_granting_is : (minute : ℕ) → Decides (some_rule (is_granting b v role minute)) (Permitted b v role minute)
+    some_granting_is minute = Decides-like (some_rule (is_granting b v role minute))
         (λ w. (w.0, w.2))
         (λ w. (w.0, met_within b v w.0 w.1.0, w.1))
         (some_below_is (length b.rules) (is_granting b v role minute) (Granting b v role minute) (is_granting_is b v role minute))
@@ -53,12 +53,12 @@ module _ {V S : Type 0} (b : Book V S) where
 
     -- rule i grants and is comparable with no denying rule
     abbrev pub grants_freely : V → ℕ → ℕ → ℕ → Bool
-    grants_freely v role minute i = is_granting b v role minute i && not (some-rule (clashes v role i))
+    grants_freely v role minute i = is_granting b v role minute i && not (some_rule (clashes v role i))
 
     abbrev pub says : V → ℕ → ℕ → Shipped → Bool
-    says v role minute Permission = some-rule (is_granting b v role minute)
-    says v role minute Denial = some-rule (is_granting b v role minute) && not (some-rule (is_denying b v role))
-    says v role minute LocalDenial = some-rule (grants_freely v role minute)
+    says v role minute Permission = some_rule (is_granting b v role minute)
+    says v role minute Denial = some_rule (is_granting b v role minute) && not (some_rule (is_denying b v role))
+    says v role minute LocalDenial = some_rule (grants_freely v role minute)
 
 module _ {V S : Type 0} (b : Book V S) (implies : S → S → Bool) (told : (s t : S) → Decides (implies s t) (Implied b.meaning s t)) where
   pub is_over_is : (i j : ℕ) → Decides (is_over b implies i j) (Senior b i j)
@@ -71,21 +71,21 @@ module _ {V S : Type 0} (b : Book V S) (implies : S → S → Bool) (told : (s t
     abbrev Apart : ℕ → Type 0
     Apart i = (j : ℕ) → Denying b v role j → (Senior b i j → ⊥) × (Senior b j i → ⊥)
 
-    apart_is : (i : ℕ) → Decides (not (some-rule b (clashes b implies v role i))) (Apart i)
-    apart_is i = Decides-like (not (some-rule b (clashes b implies v role i)))
+    apart_is : (i : ℕ) → Decides (not (some_rule b (clashes b implies v role i))) (Apart i)
+    apart_is i = Decides-like (not (some_rule b (clashes b implies v role i)))
         (λ none j d. ((λ s. none (j, met_within b v j d.0, (d, inl s))), (λ s. none (j, met_within b v j d.0, (d, inr s)))))
         (λ apart w. ⊎_elim (apart w.0 w.2.0).0 (apart w.0 w.2.0).1 w.2.1)
-        (Decides-not (some-rule b (clashes b implies v role i))
+        (Decides-not (some_rule b (clashes b implies v role i))
         (some_below_is (length b.rules) (clashes b implies v role i) (λ j. Denying b v role j × (Senior b i j ⊎ Senior b j i))
         (λ j. Decides-and (is_denying b v role j) (is_over b implies i j || is_over b implies j i) (is_denying_is b v role j)
         (Decides-or (is_over b implies i j) (is_over b implies j i) (is_over_is i j) (is_over_is j i)))))
 
-    some_freely_is : Decides (some-rule b (grants_freely b implies v role minute)) (PermittedAndNotDeniedLocally b v role minute)
-    some_freely_is = Decides-like (some-rule b (grants_freely b implies v role minute))
+    some_freely_is : Decides (some_rule b (grants_freely b implies v role minute)) (PermittedAndNotDeniedLocally b v role minute)
+    some_freely_is = Decides-like (some_rule b (grants_freely b implies v role minute))
         (λ w. (w.0, w.2.0, w.2.1))
         (λ w. (w.0, met_within b v w.0 w.1.0, (w.1, w.2)))
         (some_below_is (length b.rules) (grants_freely b implies v role minute) (λ i. Granting b v role minute i × Apart i)
-        (λ i. Decides-and (is_granting b v role minute i) (not (some-rule b (clashes b implies v role i))) (is_granting_is b v role minute i) (apart_is i)))
+        (λ i. Decides-and (is_granting b v role minute i) (not (some_rule b (clashes b implies v role i))) (is_granting_is b v role minute i) (apart_is i)))
 
     module _ (few : length b.rules ≤ 64) where
       abbrev granting : Set
@@ -105,10 +105,10 @@ module _ {V S : Type 0} (b : Book V S) (implies : S → S → Bool) (told : (s t
 
       pub says_is : (policy : Shipped) → Decides (says b implies v role minute policy) (Allowed b (judge_of policy) v role minute)
       says_is Permission =
-          as_judged permission (Permitted b v role minute) (some-rule b (is_granting b v role minute)) (some_granting_is b v role minute) (permission_is b v role minute granting denying ranks gathers)
-      says_is Denial = as_judged denial (PermittedAndNotDenied b v role minute) (some-rule b (is_granting b v role minute) && not (some-rule b (is_denying b v role)))
-          (Decides-and (some-rule b (is_granting b v role minute)) (not (some-rule b (is_denying b v role))) (some_granting_is b v role minute)
-          (Decides-like (not (some-rule b (is_denying b v role))) (λ none j d. none (j, d)) (λ none w. none w.0 w.1) (Decides-not (some-rule b (is_denying b v role)) (some_denying_is b v role))))
+          as_judged permission (Permitted b v role minute) (some_rule b (is_granting b v role minute)) (some_granting_is b v role minute) (permission_is b v role minute granting denying ranks gathers)
+      says_is Denial = as_judged denial (PermittedAndNotDenied b v role minute) (some_rule b (is_granting b v role minute) && not (some_rule b (is_denying b v role)))
+          (Decides-and (some_rule b (is_granting b v role minute)) (not (some_rule b (is_denying b v role))) (some_granting_is b v role minute)
+          (Decides-like (not (some_rule b (is_denying b v role))) (λ none j d. none (j, d)) (λ none w. none w.0 w.1) (Decides-not (some_rule b (is_denying b v role)) (some_denying_is b v role))))
           (denial_is b v role minute granting denying ranks gathers)
       says_is LocalDenial =
-          as_judged local_denial (PermittedAndNotDeniedLocally b v role minute) (some-rule b (grants_freely b implies v role minute)) some_freely_is (local_is b v role minute granting denying ranks gathers)
+          as_judged local_denial (PermittedAndNotDeniedLocally b v role minute) (some_rule b (grants_freely b implies v role minute)) some_freely_is (local_is b v role minute granting denying ranks gathers)

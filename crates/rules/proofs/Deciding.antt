@@ -81,10 +81,10 @@ module _ {V S : Type 0} (b : Book V S) where
   abbrev pub grants_role : ℕ → ℕ → Rule S → Bool
   grants_role role minute r = member r.grants role || some_passes (leads_from r.grants role minute) b.entries
 
-  abbrev Grants-role : ℕ → ℕ → Rule S → Type 0
-  Grants-role role minute r = (from : ℕ) × (member r.grants from ≡ true) × ((from ≡ role) ⊎ Leads b from role minute)
+  abbrev GrantsRole : ℕ → ℕ → Rule S → Type 0
+  GrantsRole role minute r = (from : ℕ) × (member r.grants from ≡ true) × ((from ≡ role) ⊎ Leads b from role minute)
 
-  grants_role_is : (role minute : ℕ) (r : Rule S) → Decides (grants_role role minute r) (Grants-role role minute r)
+  grants_role_is : (role minute : ℕ) (r : Rule S) → Decides (grants_role role minute r) (GrantsRole role minute r)
   grants_role_is role minute r = Decides-like (grants_role role minute r)
       (λ s. ⊎_elim
       (λ m. (role, m, inl refl))
@@ -107,7 +107,7 @@ module _ {V S : Type 0} (b : Book V S) where
       (λ w. (w.0, let g = w.1 in record { rule = g.0; found = g.1; from = g.2.0; granted = g.2.1; arrives = g.2.2 }))
       (λ w. (w.0, let g = w.1 in (g.rule, g.found, (g.from, g.granted, g.arrives))))
       (Decides-and (is_met v i) (passes (grants_role role minute) (slice_get b.rules i)) (is_met_is v i)
-      (passes_is (grants_role role minute) (Grants-role role minute) (grants_role_is role minute) (slice_get b.rules i)))
+      (passes_is (grants_role role minute) (GrantsRole role minute) (grants_role_is role minute) (slice_get b.rules i)))
 
   abbrev pub is_denying : V → ℕ → ℕ → Bool
   is_denying v role i = is_met v i && passes (λ r. member r.denies role) (slice_get b.rules i)

@@ -15,8 +15,8 @@ use Rattle.rules.specs.Rules.{Book, Meets, Grants, Denies, Leads}
 use Rattle.rules.proofs.Places.{found_within, found_one}
 
 module _ {V S : Type 0} (b : Book V S) where
-  pub meets-not : (v : V) (i : ℕ) (rule : Rule S) → slice_get b.rules i ≡ Some rule → meets b.meaning v rule.test ≡ false → Meets b v i → ⊥
-  meets-not v i rule found e met =
+  pub meets_not : (v : V) (i : ℕ) (rule : Rule S) → slice_get b.rules i ≡ Some rule → meets b.meaning v rule.test ≡ false → Meets b v i → ⊥
+  meets_not v i rule found e met =
       both_ways (meets b.meaning v rule.test) e
       (ap (λ (r : Rule S). meets b.meaning v r.test) (found_one b.rules i rule met.rule found met.found) ∙ met.met)
 

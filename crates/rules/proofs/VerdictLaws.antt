@@ -6,7 +6,7 @@ use Rattle.std.proofs.lemmas.Bool.{both_ways, cases_Bool, and_parts, and_from, n
 use Rattle.std.proofs.lemmas.Bool.Decides.{same_from_decides, not_from_Decides, Decides-like}
 use Rattle.sets.specs.declared.set.Set.{Set}
 use Rattle.sets.specs.Members.{member, empty}
-use Rattle.sets.proofs.MemberLaws.{same_members, some-member, member-not-empty, empty_decides}
+use Rattle.sets.proofs.MemberLaws.{same_members, some_member, member-not-empty, empty_decides}
 use Rattle.sets.proofs.Gathering.{Holds}
 use Rattle.rules.specs.declared.claim.Verdict.{Verdict}
 use Rattle.rules.specs.declared.claim.Verdict.TheVariants.{Entitled, NothingGrants, Denied}
@@ -78,7 +78,7 @@ module _ {V S : Type 0} (b : Book V S) (v : V) (role now : ℕ) where
     -- what the shipped policies come to
     pub permission_is : Decides (permission p n t) (Permitted b v role now)
     permission_is = (
-      (λ e. let w = some-member p (not-true (empty p) e) in (w.0, (g.granting w.0).0 w.1)),
+      (λ e. let w = some_member p (not-true (empty p) e) in (w.0, (g.granting w.0).0 w.1)),
       (λ w. not_from_false (empty p) (member-not-empty p w.0 ((g.granting w.0).1 w.1))),
     )
 

@@ -4,14 +4,14 @@ use Rattle.std.proofs.Common.{⊎_elim}
 use Rattle.std.proofs.lemmas.Bool.{and_from, and_left, and_right, and_parts, or_from, or_parts, cases_Bool, both_ways, not-true, not_from_true, not_from_false}
 use Rattle.sets.specs.declared.set.Set.{Set}
 use Rattle.sets.specs.Members.{member, some, empty}
-use Rattle.sets.proofs.MemberLaws.{member_below, some_decides, none_some, none_passes, empty_decides, some-member, member-not-empty}
+use Rattle.sets.proofs.MemberLaws.{member_below, some_decides, none_some, none_passes, empty_decides, some_member, member-not-empty}
 use Rattle.rules.specs.declared.seniority.Seniority.{Seniority}
 use Rattle.rules.specs.Ranks.{is_senior, comparable}
 use Rattle.rules.specs.Policies.{NothingGrantingIsNo, GrantingAndNothingDenyingIsYes, YesStaysWhenGrantingGainsOrDenyingLoses, permission, denial, local_denial}
 
 more_not_empty : (p more : Set) → ((i : ℕ) → member p i ≡ true → member more i ≡ true) → not (empty p) ≡ true → not (empty more) ≡ true
 more_not_empty p more gains e =
-    let w = some-member p (not-true (empty p) e) in
+    let w = some_member p (not-true (empty p) e) in
     not_from_false (empty more) (member-not-empty more w.0 (gains w.0 w.1))
 
 -- permission

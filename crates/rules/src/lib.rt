@@ -1,4 +1,6 @@
 // Rules, which are senior to which, conflict policies, and who is entitled by rules.
+#![tactic(auto)]
+
 mod claim;
 mod denial;
 mod entry;

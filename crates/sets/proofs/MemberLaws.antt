@@ -93,9 +93,9 @@ and_all_decides s t = (
 )
 
 -- what is not empty has a member
-pub some-member : (s : Set) → empty s ≡ false → (i : ℕ) × (member s i ≡ true)
+pub some_member : (s : Set) → empty s ≡ false → (i : ℕ) × (member s i ≡ true)
 unfolding empty
-some-member s e = let w = (some_decides (member s)).0 (not-false (some (member s)) e) in (w.0, w.2)
+some_member s e = let w = (some_decides (member s)).0 (not-false (some (member s)) e) in (w.0, w.2)
 
 pub member-not-empty : (s : Set) (i : ℕ) → member s i ≡ true → empty s ≡ false
 member-not-empty s i e =

@@ -1,4 +1,6 @@
 // The command: what the role core says, in words.
+#![tactic(auto)]
+
 mod book;
 mod demonstration;
 mod show;

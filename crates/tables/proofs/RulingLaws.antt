@@ -5,7 +5,7 @@ use Rattle.std.proofs.lemmas.Bool.{both_ways, cases_Bool}
 use Rattle.std.proofs.lemmas.Bool.Decides.{Decides-like, not_from_Decides}
 use Rattle.sets.specs.declared.set.Set.{Set}
 use Rattle.sets.specs.Members.{member, empty, LowestFrom, EmptyFrom}
-use Rattle.sets.proofs.MemberLaws.{empty_decides, some-member}
+use Rattle.sets.proofs.MemberLaws.{empty_decides, some_member}
 use Rattle.sets.proofs.Gathering.{Holds, holds_none}
 use Rattle.rules.specs.declared.claim.Verdict.{Verdict}
 use Rattle.rules.specs.declared.claim.Verdict.TheVariants.{Entitled, NothingGrants, Denied}
@@ -74,7 +74,7 @@ module _ {V S : Type 0} (s : Setting V S) where
     by_rules_is never = (
       (λ e.
           let some : empty p ≡ false = ⊎_elim (λ y. absurd (both_ways (s.judge p n s.table) (never p n s.table ((empty_decides p).0 y)) e)) (λ z. z) (cases_Bool (empty p)) in
-          let w = some-member p some in
+          let w = some_member p some in
           let g = (p_are w.0).0 w.1 in
           record {
             value = g.value;

@@ -1,4 +1,6 @@
 // What a grader keeps between calls, and how it rules on it.
+#![tactic(auto)]
+
 mod keep;
 mod loan;
 mod loans;

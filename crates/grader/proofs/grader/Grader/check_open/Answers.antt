@@ -1,4 +1,4 @@
-use Rattle.std.proofs.Common.{sym, refl, ap, ◌∙◌, inl, inr}
+use Rattle.std.proofs.Common.{sym, refl, ap, inl, inr}
 use Rattle.tables.specs.Panels.{person_of}
 use Rattle.grader.proofs.grader.Grader.check_open.Goals as goal
 

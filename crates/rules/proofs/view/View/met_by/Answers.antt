@@ -2,7 +2,7 @@ use Rattle.std.proofs.Common.{sym, arith}
 use Rattle.sets.proofs.Gathering.{gathered_none, gathered_same, gathered_with, gathered_all}
 use Rattle.rules.specs.Rules.{seen}
 use Rattle.rules.proofs.Places.{found_here}
-use Rattle.rules.proofs.RuleLaws.{meets-not, met_within}
+use Rattle.rules.proofs.RuleLaws.{meets_not, met_within}
 use Rattle.rules.proofs.view.View.met_by.Goals as goal
 use Rattle.rules.proofs.view.View.met_by.Goals.{then-meets, else-meets}
 
@@ -19,7 +19,7 @@ loop-i-preserved g c =
           w.with-met.ensures.members_are_those_before_and_this_one c.loop-i.invariant
       | else-meets w ↦
           gathered_same _ _ _ _ w.met-is
-          (meets-not (seen g.K.Kind.meaning c.args.self.now) c.args.value c.loop-i.i c.rule-item.result found (sym w.if-meets.ensures.meets_exactly_when_lawful_and_meant))
+          (meets_not (seen g.K.Kind.meaning c.args.self.now) c.args.value c.loop-i.i c.rule-item.result found (sym w.if-meets.ensures.meets_exactly_when_lawful_and_meant))
           c.loop-i.invariant
     ]
 

@@ -1,12 +1,12 @@
 use Rattle.std.proofs.Common.{◌<◌, false, sym, refl, arith}
 use Rattle.std.proofs.lemmas.Bool.{both_ways}
 use Rattle.sets.specs.Members.{member}
-use Rattle.sets.proofs.MemberLaws.{some-member}
+use Rattle.sets.proofs.MemberLaws.{some_member}
 use Rattle.tables.proofs.ruling.Ruling.lets_stand.Goals as goal
 
 pub returns-then-not-is_empty : goal.returns-then-not-is_empty
 returns-then-not-is_empty g c =
-    let w = some-member c.claim.result.denying (sym c.if-not-is_empty.ensures.answers_whether_it_is_empty) in
+    let w = some_member c.claim.result.denying (sym c.if-not-is_empty.ensures.answers_whether_it_is_empty) in
     record {
       tells_whether_the_loan_may_stand = (
         (λ e. absurd (both_ways false refl e)),
