@@ -2,7 +2,7 @@
 use Rattle.std.proofs.Common.{◌≡◌, ℕ, ◌+◌, ◌≤◌, Bool, true, false, cond, ltb, ◌⊎◌, List, [], ◌∷◌, ◌++◌, length, Ok, Err, Result, sym, refl, ap, ◌∙◌, subst, inl, inr, ⊎_elim, arith, length-append}
 use Rattle.std.proofs.lemmas.List.{append_assoc, append-nil}
 use Rattle.std.proofs.lemmas.Bool.{both_ways, cond-true, and_parts, ltb-true}
-use Rattle.std.specs.List.{AllByRecursion as All}
+use Rattle.std.specs.List.{AllByRecursion}
 use Rattle.kinds.specs.Readings.{Reading}
 use Rattle.book.specs.declared.contents.Content.{Content}
 use Rattle.book.specs.declared.contents.Content.TheVariants.{Filler, Heading, NewRule, NewEntry, End}
@@ -58,7 +58,7 @@ module _ {S : Type 0} (reads : List ℕ → Reading S) (lawful : S → Bool) (m 
   -- from the progress b the records xss led to c: plain contents, and perhaps the end
   pub record Went (b c : Progress S) (xss : List (List ℕ)) : Type 0 where
     pub inner : List (Content S)
-    pub all_plain : All (λ x. plain x ≡ true) inner
+    pub all_plain : AllByRecursion (λ x. plain x ≡ true) inner
     pub begun_is : c.begun ≡ true
     pub policy_is : c.policy ≡ b.policy
     pub rules_are : c.rules ≡ b.rules ++ rules_of inner

@@ -2,7 +2,7 @@
 use Rattle.std.proofs.Common.{◌≡◌, ℕ, ◌+◌, ◌≤◌, Bool, true, false, ltb, List, [], ◌∷◌, ◌++◌, length, drop, Ok, Err, Result, sym, refl, ap, ◌∙◌, subst, arith, length-append}
 use Rattle.std.proofs.lemmas.List.{append_assoc, append-nil}
 use Rattle.std.proofs.lemmas.Bool.{both_ways, cond-true, and_from, lt-ltb}
-use Rattle.std.specs.List.{AllByRecursion as All}
+use Rattle.std.specs.List.{AllByRecursion}
 use Rattle.kinds.specs.Readings.{Reading}
 use Rattle.rules.specs.declared.entry.Entry.{Entry}
 use Rattle.rules.specs.declared.rule.Rule.{Rule}
@@ -36,7 +36,7 @@ module _ {S : Type 0} (reads : List ℕ → Reading S) (lawful : S → Bool) (m 
     entries_few : length b.entries + length (entries_of cs) ≤ 32
     entries_fit : length b.entries + length (entries_of cs) ≤ n
 
-  plain_run : (cs : List (Content S)) (xss : List (List ℕ)) (b : Progress S) → b.begun ≡ true → b.ended ≡ false → All (λ x. plain x ≡ true) cs → EachSays reads lawful m n xss cs → Space b cs → Makes reads lawful m n b xss (grown b cs)
+  plain_run : (cs : List (Content S)) (xss : List (List ℕ)) (b : Progress S) → b.begun ≡ true → b.ended ≡ false → AllByRecursion (λ x. plain x ≡ true) cs → EachSays reads lawful m n xss cs → Space b cs → Makes reads lawful m n b xss (grown b cs)
   plain_run [] [] b bg en pl say sp =
       ap (λ zs. record { begun = b.begun; ended = b.ended; policy = b.policy; rules = zs; entries = b.entries }) (sym (append-nil b.rules))
       ∙ ap (λ zs. record { begun = b.begun; ended = b.ended; policy = b.policy; rules = b.rules ++ []; entries = zs }) (sym (append-nil b.entries))

@@ -20,7 +20,7 @@
 --     Outcome ...             what `read` answers, and what the memory then holds
 --     Exact                   two outcomes over the same bytes and memory are equal
 use Rattle.std.specs.Prelude.{◌≡◌, ℕ, ◌+◌, ◌<◌, ◌≤◌, Bool, true, false, ◌&&◌, ◌⊎◌, List, [], ◌∷◌, ◌++◌, length, drop, Ok, Err, Result, ◌==◌, ◌≢◌, nat_le}
-use Rattle.std.specs.List.{flat_map, AllByRecursion as All}
+use Rattle.std.specs.List.{flat_map, AllByRecursion}
 use Rattle.sets.specs.Bytes.{little}
 use Rattle.kinds.specs.Readings.{Reading}
 use Rattle.rules.specs.declared.entry.Entry.{Entry}
@@ -92,7 +92,7 @@ module _ {S : Type 0} (reads : List ℕ → Reading S) (lawful : S → Bool) (m 
 
   pub record Body (h : Header) (cs : List (Content S)) : Type 0 where
     pub header_good : good_header h ≡ true
-    pub all_plain : All (λ c. plain c ≡ true) cs
+    pub all_plain : AllByRecursion (λ c. plain c ≡ true) cs
     pub rules_few : length (rules_of cs) ≤ 64
     pub rules_fit : length (rules_of cs) ≤ m
     pub entries_few : length (entries_of cs) ≤ 32

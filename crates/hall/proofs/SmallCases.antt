@@ -1,6 +1,6 @@
 -- The worked cases, line by line: each is left to tests that compute.
 use Rattle.std.proofs.Common.{◌≡◌, ℕ, ◌<◌, Bool, true, false, not, ◌&&◌, ◌||◌, eqb, ◌⊎◌, List, [], ◌∷◌, refl, ⊎_elim, lit<}
-use Rattle.std.specs.List.{AllByRecursion as All}
+use Rattle.std.specs.List.{AllByRecursion}
 use Rattle.std.proofs.lemmas.Bool.{cases_eq}
 use Rattle.std.proofs.lemmas.Bool.Decides.{Decides-and, Decides-or, Decides-not, Decides-eqb, not_from_Decides}
 use Rattle.sets.specs.Members.{bit, member, some_below, some, empty, subset}
@@ -18,34 +18,34 @@ use Rattle.hall.proofs.SmallRuling.{over, over_is, by_rules, by_rules_is, grante
 use Rattle.hall.proofs.SmallTakes.{open_granted, take_of_nothing, take_denied}
 
 -- from tests of each policy to what is said of each
-at_any : (What : Plant Record Test → Type 0) (Told : Shipped → ℕ → Type 0) → ((policy : Shipped) (now : ℕ) → Told policy now → What (small_plant policy now)) → (policies : List Shipped) → ((now : ℕ) → All (λ policy. Told policy now) policies) → Under policies any_minute What
+at_any : (What : Plant Record Test → Type 0) (Told : Shipped → ℕ → Type 0) → ((policy : Shipped) (now : ℕ) → Told policy now → What (small_plant policy now)) → (policies : List Shipped) → ((now : ℕ) → AllByRecursion (λ policy. Told policy now) policies) → Under policies any_minute What
 at_any What Told from [] told = tt
 at_any What Told from (policy ∷ policies) told = ((λ now. from policy now (told now).0), at_any What Told from policies (λ now. (told now).1))
 
-at_one : (What : Plant Record Test → Type 0) (Told : Shipped → Type 0) (now : ℕ) → ((policy : Shipped) → Told policy → What (small_plant policy now)) → (policies : List Shipped) → All Told policies → Under policies (minute now) What
+at_one : (What : Plant Record Test → Type 0) (Told : Shipped → Type 0) (now : ℕ) → ((policy : Shipped) → Told policy → What (small_plant policy now)) → (policies : List Shipped) → AllByRecursion Told policies → Under policies (minute now) What
 at_one What Told now from [] told = tt
 at_one What Told now from (policy ∷ policies) told = (from policy told.0, at_one What Told now from policies told.1)
 
 module _ (person role : ℕ) (policies : List Shipped) where
-  always_entitled : ((now : ℕ) → All (λ policy. by_rules policy now person role ≡ true) policies) → HoldsCase (entitled policies any_minute person role)
+  always_entitled : ((now : ℕ) → AllByRecursion (λ policy. by_rules policy now person role ≡ true) policies) → HoldsCase (entitled policies any_minute person role)
   always_entitled = at_any (IsEntitled person role) (λ policy now. by_rules policy now person role ≡ true) (λ policy now. (by_rules_is policy now person role).0) policies
 
-  then_entitled : (now : ℕ) → All (λ policy. by_rules policy now person role ≡ true) policies → HoldsCase (entitled policies (minute now) person role)
+  then_entitled : (now : ℕ) → AllByRecursion (λ policy. by_rules policy now person role ≡ true) policies → HoldsCase (entitled policies (minute now) person role)
   then_entitled now = at_one (IsEntitled person role) (λ policy. by_rules policy now person role ≡ true) now (λ policy. (by_rules_is policy now person role).0) policies
 
-  then_not_entitled : (now : ℕ) → All (λ policy. by_rules policy now person role ≡ false) policies → HoldsCase (not_entitled policies (minute now) person role)
+  then_not_entitled : (now : ℕ) → AllByRecursion (λ policy. by_rules policy now person role ≡ false) policies → HoldsCase (not_entitled policies (minute now) person role)
   then_not_entitled now = at_one (IsNotEntitled person role) (λ policy. by_rules policy now person role ≡ false) now
       (λ policy. not_from_Decides (by_rules policy now person role) (by_rules_is policy now person role)) policies
 
   module _ (there : person < 4) (small : role < 64) where
-    nothing_grants : ((now : ℕ) → All (λ policy. granted policy now person role ≡ false) policies) → HoldsCase (take_refused policies any_minute person role NothingGrants 60)
+    nothing_grants : ((now : ℕ) → AllByRecursion (λ policy. granted policy now person role ≡ false) policies) → HoldsCase (take_refused policies any_minute person role NothingGrants 60)
     nothing_grants none = (
       refl,
       at_any (OpensAndMayNotTake person role NothingGrants) (λ policy now. granted policy now person role ≡ false)
           (λ policy now e. (open_granted policy now person role there, take_of_nothing policy now person role small e)) policies none,
     )
 
-    rule_denies : (i : ℕ) → ((now : ℕ) → All (λ policy. (granted policy now person role ≡ true) × (by_rules policy now person role ≡ false) × (lowest policy now person role i ≡ true)) policies) → HoldsCase (take_refused policies any_minute person role (RuleDenies i) 61)
+    rule_denies : (i : ℕ) → ((now : ℕ) → AllByRecursion (λ policy. (granted policy now person role ≡ true) × (by_rules policy now person role ≡ false) × (lowest policy now person role i ≡ true)) policies) → HoldsCase (take_refused policies any_minute person role (RuleDenies i) 61)
     rule_denies i told = (
       refl,
       at_any (OpensAndMayNotTake person role (RuleDenies i)) (λ policy now. (granted policy now person role ≡ true) × (by_rules policy now person role ≡ false) × (lowest policy now person role i ≡ true))

@@ -13,7 +13,7 @@
 --     HoldsCase case             what a line says
 --     WorkedCases                every line of the table holds
 use Rattle.std.specs.Prelude.{◌≡◌, ℕ, ◌⊎◌, List, [], ◌∷◌, Ok, Err, Result}
-use Rattle.std.specs.List.{AllByRecursion as All}
+use Rattle.std.specs.List.{AllByRecursion}
 use Rattle.sets.specs.declared.set.Set.{Set}
 use Rattle.kinds.specs.Kinds.{Meaning}
 use Rattle.kinds.specs.Readings.{Reading, read_level, read_set, read_pair}
@@ -133,7 +133,7 @@ Then any_minute What = (now : ℕ) → What now
 Then (minute now) What = What now
 
 abbrev pub Under : List Shipped → When → (Plant Record Test → Type 0) → Type 0
-Under policies when What = All (λ policy. Then when (λ now. What (small_plant policy now))) policies
+Under policies when What = AllByRecursion (λ policy. Then when (λ now. What (small_plant policy now))) policies
 
 -- what is said of a plant
 abbrev pub IsEntitled : ℕ → ℕ → Plant Record Test → Type 0
@@ -169,4 +169,4 @@ HoldsCase (accepted bytes policy rules entries) =
 HoldsCase (refused bytes n place) = Reads bytes (λ r. (f : FileFault) × (r ≡ Err f) × (number_of f.fault ≡ n) × (f.place ≡ place))
 
 abbrev pub WorkedCases : Type 0
-WorkedCases = All HoldsCase worked_cases
+WorkedCases = AllByRecursion HoldsCase worked_cases

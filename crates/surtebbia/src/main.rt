@@ -1,8 +1,8 @@
 // The command: what the role core says, in words.
 #![tactic(auto)]
 
-mod book;
 mod demonstration;
+mod rulebook;
 mod show;
 mod who;
 mod words;
@@ -27,7 +27,7 @@ fn run(rt: &HostRuntime) -> anyhow::Result<()> {
         return demonstration::play(rt);
     };
     match command.as_str() {
-        "book" => book::run(rt, given.as_slice()),
+        "book" => rulebook::run(rt, given.as_slice()),
         "who" => who::run(rt, given.as_slice()),
         word => words::bad(rt, "unknown command", word),
     }
