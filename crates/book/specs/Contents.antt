@@ -9,7 +9,7 @@
 --     entry_at bs                       the entry in the bytes, whatever its fields
 --     rule_from ...                     the rule, once its sets are known and its test was read
 --     said f r                          the answer r, what it says made a content by f
---     SetSplit bs r                    the 8 bytes of a set at the front of the bytes, and what follows them
+--     SetSplit bs r                     the 8 bytes of a set at the front of the bytes, and what follows them
 use Rattle.std.specs.Prelude.{◌≡◌, ℕ, ◌-◌, ◌<◌, ◌≤◌, Bool, true, cond, ◌&&◌, List, [], ◌∷◌, length, drop, Ok, Err, Result, MatchResult, ◌==◌, nat_le, slice_index}
 use Rattle.std.specs.Borrow.{Bor}
 use Rattle.sets.specs.declared.set.Set.{Set}

@@ -2,16 +2,16 @@
 --     good_header h           edition 2 and a policy code 1 to 3
 --     Spells xs kind body     the bytes xs are one record: length of the body and kind, 2 bytes each, then the body
 --     Says xs c               the bytes xs are one record, and c is what it says, or what is wrong with it
---     EachSays xss cs        the records xss say the contents cs, one by one
+--     EachSays xss cs         the records xss say the contents cs, one by one
 --     plain c                 a filler, a rule or an entry
 --     rules_of cs, entries_of cs    those among the contents, in order
 --     Body h cs               the header is good, the contents are plain, and they hold no more rules and entries than the limits and
 --                             the memory allow
 --     Opening cs              the contents may stand at the front of a file: none, or a header and its body
 --     Whole h cs all          `all` is the header h, then the plain contents cs, then the end: a whole rulebook
---     BeginsWith bs P        the bytes begin with a record of which P holds
+--     BeginsWith bs P         the bytes begin with a record of which P holds
 --     Saying Q xs             the record xs says a content of which Q holds
---     Misplaced cs c, Unknown c, TooMany cs c    why the content c has no place after the contents cs
+--     Misplaced cs c, Unknown c, TooMany cs c     why the content c has no place after the contents cs
 --     Faulty cs bs f          after the contents cs, f is what is wrong with the bytes bs that follow
 --     Accepted bytes h cs all the file is the records of a whole rulebook in a row, and nothing after them
 --     Refused bytes cs f      records that say cs stand at the front of the file, and what follows them is faulty

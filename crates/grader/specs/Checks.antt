@@ -5,15 +5,15 @@
 --     facing b judge table g vs    the situation that a grader faces, over a rulebook, a policy, a table of seniority and a register
 --     Found checks There r     r is the refusal of the first check that holds, or, where none does, a value of which There holds
 --     Seated g panel seat      the seat at the panel
---     OnGrounds person role   the person is entitled to the role, by rules or by a loan
---     GrantedSeat panel role seat    the seat at the panel, whose person is entitled to the role
---     StopsByVerdict person role r  r refuses where the person is not entitled, and tells why
---     StopsUnless f good r    r refuses with f unless something is good, and else lets pass
+--     OnGrounds person role    the person is entitled to the role, by rules or by a loan
+--     GrantedSeat panel role seat     the seat at the panel, whose person is entitled to the role
+--     StopsByVerdict person role r    r refuses where the person is not entitled, and tells why
+--     StopsUnless f good r     r refuses with f unless something is good, and else lets pass
 --     borrower_checks borrower role    the checks of a lend that ask for the borrower
---     FreeToBorrow borrower role     the role is not on loan to the borrower, who meets no rule that denies it
+--     FreeToBorrow borrower role       the role is not on loan to the borrower, who meets no rule that denies it
 --     Lending panel borrower role minutes lender    the lender at the panel, and that the loan may stand
---     StandsSo person role how        how the person stands to the role
---     moment_of b judge vs minute     a rulebook, a policy, records and a minute
+--     StandsSo person role how         how the person stands to the role
+--     moment_of b judge vs minute      a rulebook, a policy, records and a minute
 --     Settled b judge old vs new       loans that may not stand have ended, then roles without grounds
 use Rattle.std.specs.Prelude.{◌≡◌, ℕ, ◌<◌, ◌⊎◌, List, [], ◌∷◌, length, Some, Ok, Err, Result}
 use Rattle.rules.specs.declared.seniority.Seniority.{Seniority}

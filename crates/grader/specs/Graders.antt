@@ -9,7 +9,7 @@
 --     reply r, standing_reply r, roles_reply r    the reply that the result of a call, of a question comes to
 --     Ran p old r new ws              a grader is made over p and given the calls of the log `old`, oldest first: r is the result, `new` the log with
 --                                     the replies, and ws the register after it
---     CheckedMaking m register policy start r    the result of checking a making: its first refusal, or what a grader is built from
+--     CheckedMaking m register policy start r     the result of checking a making: its first refusal, or what a grader is built from
 use Rattle.std.specs.Prelude.{◌≡◌, ℕ, true, List, reverse, take, Ok, Err, Result}
 use Rattle.kinds.specs.Kinds.{Meaning}
 use Rattle.rules.specs.declared.entry.Entry.{Entry}

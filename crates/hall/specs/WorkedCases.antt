@@ -10,8 +10,8 @@
 --       accepted bytes policy rules entries      the file is accepted: the policy's code, how many rules and entries
 --       refused bytes n place                    the file is refused: the number of the fault, the byte place of the faulty record
 --     worked_cases                the table
---     HoldsCase case             what a line says
---     WorkedCases                every line of the table holds
+--     HoldsCase case              what a line says
+--     WorkedCases                 every line of the table holds
 use Rattle.std.specs.Prelude.{◌≡◌, ℕ, ◌⊎◌, List, [], ◌∷◌, Ok, Err, Result}
 use Rattle.std.specs.List.{AllByRecursion}
 use Rattle.sets.specs.declared.set.Set.{Set}

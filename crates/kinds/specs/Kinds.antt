@@ -2,7 +2,7 @@
 --     Meaning V S                  which values V and which tests S are lawful, and which values are meant to meet which tests
 --     meets m v s                  the value v meets the test s: both are lawful, and it is meant to
 --     Implied m s t                the test s implies the test t: both are lawful, and every lawful value that meets s meets t
---     EveryLawfulTestIsMet m   every lawful test is met by some lawful value
+--     EveryLawfulTestIsMet m       every lawful test is met by some lawful value
 use Rattle.std.specs.Prelude.{◌≡◌, Bool, true, ◌&&◌}
 
 pub record Meaning (V S : Type 0) : Type 0 where

@@ -1,7 +1,7 @@
 -- READINGS: how tests stand in a file.
 --     Reading S         what reading a test answers: the test and the number of bytes used, or a fault
 --     Uses r n          a reading that gives a test uses no more than n bytes
---     UsesNoMoreThanThereAre reads    so it is for every byte string
+--     UsesNoMoreThanThereAre reads         so it is for every byte string
 --     read_level        2 bytes
 --     read_set          8 bytes, for certificates and for sites
 --     after_first s n r, both_halves r rest    a pair, once its first half was read

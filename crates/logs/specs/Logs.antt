@@ -7,17 +7,17 @@
 --     records log              the register's records, then those of the last granted enters
 --     seat log at              the person last seated at the panel by a granted open, none at first and after a granted close
 --     moment log               the rulebook and the policy with those records and that clock
---     MadeBy loan log         the newest call is a granted lend that made the loan
+--     MadeBy loan log          the newest call is a granted lend that made the loan
 --     Recalled loan log        the newest call is a granted recall of such a loan
---     LoanEnded loan log      it is recalled, or due, or its lender is not entitled by rules, or its borrower meets a denying rule
---     StandsAfter log loan    a granted lend made the loan, and nothing ended it since
---     ThirtyTwoStand log     thirty_two different loans stand
+--     LoanEnded loan log       it is recalled, or due, or its lender is not entitled by rules, or its borrower meets a denying rule
+--     StandsAfter log loan     a granted lend made the loan, and nothing ended it since
+--     ThirtyTwoStand log       thirty_two different loans stand
 --     Took, Dropped, Closed    the newest call is a granted take or drop of the role at the panel, or a granted close of the panel
---     EntitledAfter log person role    entitled by rules, or by a loan that stands
---     RoleEnded at role log   it is dropped, or the panel is closed, or the panel's person is not entitled to it
+--     EntitledAfter log person role     entitled by rules, or by a loan that stands
+--     RoleEnded at role log    it is dropped, or the panel is closed, or the panel's person is not entitled to it
 --     ActiveAfter log at role a granted take made the role active, and nothing ended it since
 --     after log                the situation in which the next call is answered
---     AllAnswered log         every call is answered in the situation after the calls before it
+--     AllAnswered log          every call is answered in the situation after the calls before it
 use Rattle.std.specs.Prelude.{◌≡◌, ℕ, ◌+◌, ◌≤◌, Bool, true, false, cond, ◌⊎◌, List, [], ◌∷◌, ◌++◌, length, set, Some, None, Option, ◌==◌}
 use Rattle.std.specs.List.{slice_get}
 use Rattle.rules.specs.Policies.{Judge}

@@ -1,11 +1,11 @@
 -- MOMENTS: who is entitled by rules where records and minute are these, whatever table of seniority is held.
---     Moment                    a rulebook, a policy, the records of the persons and the minute
---     GrantedBy m person role i rule i is among the granting rules that the person meets
---     DeniedBy m person role i  rule i is among the denying rules that the person meets
---     ByRules m person role     the person is entitled by rules, by the rulebook's own seniority
---     by m table                the moment as a setting, with a table of seniority
+--     Moment                         a rulebook, a policy, the records of the persons and the minute
+--     GrantedBy m person role i      rule i is among the granting rules that the person meets
+--     DeniedBy m person role i       rule i is among the denying rules that the person meets
+--     ByRules m person role          the person is entitled by rules, by the rulebook's own seniority
+--     by m table                     the moment as a setting, with a table of seniority
 --     ByTable m table person role    so the person is entitled where seniority is what the table says
---     MayStand m table loan     so the loan may stand
+--     MayStand m table loan          so the loan may stand
 use Rattle.std.specs.Prelude.{◌≡◌, ℕ, List, Some}
 use Rattle.std.specs.List.{slice_get}
 use Rattle.rules.specs.declared.seniority.Seniority.{Seniority}

@@ -1,15 +1,15 @@
 -- PROMISES: what a grader promises of every log.
 --     Held                     what a grader holds, with the register that it is lent: the clock, the panels, the loans that stand, the records
---     MoreRulesMoreRoles    whoever meets every rule that another meets is entitled by rules to whatever the other is, but for a role
+--     MoreRulesMoreRoles       whoever meets every rule that another meets is entitled by rules to whatever the other is, but for a role
 --                              denied by a rule that the first alone meets
 --     Whole log held           all that is promised of a log and of what the grader holds after it
 --     Ranks table              the table of seniority is the rulebook's
 --     Led log table held       the log led to a grader that holds this
---     CarriesOn table old call r new    whatever log led to what was held before a call, that log with this call leads to what is held after it
---     SameCalls old new       the calls stand as they were, and only replies are written
+--     CarriesOn table old call r new     whatever log led to what was held before a call, that log with this call leads to what is held after it
+--     SameCalls old new        the calls stand as they were, and only replies are written
 --     Rise last checks         the numbers of the checks rise, and each refuses with its own
---     CallsFixReplies        two logs of the same calls, each answered in the situation after the calls before it, are the same
---     NumbersRise             the numbers of the checks of every call, and of a making, rise
+--     CallsFixReplies          two logs of the same calls, each answered in the situation after the calls before it, are the same
+--     NumbersRise              the numbers of the checks of every call, and of a making, rise
 use Rattle.std.specs.Prelude.{◌≡◌, ℕ, ◌<◌, true, ◌⊎◌, ◌↔◌, List, [], ◌∷◌, map, length, Some, Decides, Option}
 use Rattle.std.specs.List.{slice_get}
 use Rattle.rules.specs.declared.seniority.Seniority.{Seniority}

@@ -8,14 +8,14 @@
 --       GrantedBy person role i, DeniedBy person role i    rule i is among the granting, the denying rules that the person meets
 --       Stands loan            the loan stands
 --       Full                   thirty-two loans stand
---     OnLoan person role      a loan of the role to the person stands
---     EntitledTo person role  the person is entitled: by rules, or by a loan
---     AtSeat panel What       there is a person at the panel, and What holds of that person
+--     OnLoan person role       a loan of the role to the person stands
+--     EntitledTo person role   the person is entitled: by rules, or by a loan
+--     AtSeat panel What        there is a person at the panel, and What holds of that person
 --     Check                    a condition for refusing a call: its number, and with which refusals it refuses
 --     only f holds             the check that refuses with f where something holds
 --     checks call              the checks of a call, in rising order
 --     answer call r            what the call is answered where nothing refuses it
---     FirstThatHolds checks otherwise r    r is the refusal of the first check that holds, or, where none does, what is said otherwise
+--     FirstThatHolds checks otherwise r      r is the refusal of the first check that holds, or, where none does, what is said otherwise
 --     Answered call r          the reply to the call is r
 --     making                   the checks of a making
 use Rattle.std.specs.Prelude.{◌≡◌, ℕ, ◌<◌, ◌≤◌, ◌⊎◌, List, [], ◌∷◌, length, Some, None, Decides, Option}

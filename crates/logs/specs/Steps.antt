@@ -3,9 +3,9 @@
 --     now_held held            the rulebook and the policy with the records and the clock that are held
 --     within table held        the situation that is read off what is held, where seniority is what the table says
 --     Grounds table held person role         the person is entitled to the role, by rules or by a loan
---     SeatHasGrounds table held at role    the panel's person is entitled to the role
---     RolesBecome old call new at role      the role is active at the panel after the granted call
---     LoansBecome old call new              the loans that stand after the granted call
+--     SeatHasGrounds table held at role      the panel's person is entitled to the role
+--     RolesBecome old call new at role       the role is active at the panel after the granted call
+--     LoansBecome old call new               the loans that stand after the granted call
 --     Became table old call new              what is held after a granted call
 --     Performed table old call r new         the reply to a call, and what is held after it
 use Rattle.std.specs.Prelude.{◌≡◌, ℕ, ◌+◌, ◌≤◌, true, false, ◌⊎◌, [], ◌∷◌, ◌++◌, length, Some, Decides, ◌≢◌}

@@ -1,6 +1,6 @@
 -- POLICIES: what a conflict policy says of one role, and the laws that every policy keeps.
 --     Judge                  a fixed yes or no for the granting rules met, the denying rules met and the seniority among rules
---     NothingGrantingIsNo, GrantingAndNothingDenyingIsYes, YesStaysWhenGrantingGainsOrDenyingLoses    the three laws
+--     NothingGrantingIsNo, GrantingAndNothingDenyingIsYes, YesStaysWhenGrantingGainsOrDenyingLoses                   the three laws
 --     permission             yes when some rule grants
 --     denial                 yes when some rule grants and none denies
 --     local_denial           yes when some granting rule is comparable with no denying rule

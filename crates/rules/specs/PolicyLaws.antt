@@ -1,4 +1,7 @@
 -- Why the shipped policies keep the three laws, and what local denial says in plain words.
+-- Lemmas, not words: an impl gives the proofs of its laws, and finds them in specs/ alone. They speak of
+--     Apart n t i     rule i is comparable with no rule of n, by the table t
+--     Locally p n t   some rule of p is apart from the rules of n
 use Rattle.std.specs.Prelude.{◌≡◌, ℕ, Bool, true, false, not, ◌&&◌, Decides}
 use Rattle.std.proofs.Common.{⊎_elim}
 use Rattle.std.proofs.lemmas.Bool.{and_from, and_left, and_right, and_parts, or_from, or_parts, cases_Bool, both_ways, not-true, not_from_true, not_from_false}

@@ -7,7 +7,7 @@
 --     Denies role i             rule i denies the role
 --     Granting v role minute i     rule i is among the granting rules met
 --     Denying v role i          rule i is among the denying rules met
---     AllowedBy judge table v role minute    the policy says yes to these sets of rules, by the table of seniority
+--     AllowedBy judge table v role minute     the policy says yes to these sets of rules, by the table of seniority
 --     Allowed judge v role minute    so it is by the rulebook's own seniority: the record is entitled by rules
 --     seen m view               the rulebook that a view reads, its tests by the meaning m
 --     Permitted v role minute, PermittedAndNotDenied v role minute, PermittedAndNotDeniedLocally v role minute

@@ -10,8 +10,8 @@
 --     these xs        the set of those of the numbers xs that are below 64
 --     all             the set of all numbers 0 to 63
 --     numbered n      the set of the binary digits of n that are 1, of its first 64
---     LowestFrom s from i    i is in s and at least `from`, and no lower number is both
---     EmptyFrom s from       no number that is at least `from` is in s
+--     LowestFrom s from i     i is in s and at least `from`, and no lower number is both
+--     EmptyFrom s from        no number that is at least `from` is in s
 use Rattle.std.specs.Prelude.{◌≡◌, ℕ, zero, suc, ◌-◌, ◌/◌, ◌%◌, ◌^◌, ◌<◌, ◌≤◌, Bool, true, false, not, ◌&&◌, ◌||◌, List, [], ◌∷◌, ◌==◌, bit_or}
 use Rattle.std.proofs.Common.{lit<}
 use Rattle.std.proofs.lemmas.Nat.{or_lt, mod_below}

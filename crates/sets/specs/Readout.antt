@@ -1,5 +1,5 @@
 -- READOUT: how the members of a set are read out one by one.
---     ReadOut m r n    from the state m, r is the next member, or none where no more are left, and n is the state after it
+--     ReadOut m r n     from the state m, r is the next member, or none where no more are left, and n is the state after it
 use Rattle.std.specs.Prelude.{◌≡◌, ℕ, ◌+◌, Some, None, Option}
 use Rattle.sets.specs.declared.set.members.Members.{Members}
 use Rattle.sets.specs.Members.{LowestFrom, EmptyFrom}

@@ -1,7 +1,7 @@
 -- LOANS: which loans stand, and which of them are kept.
 --     standing l              the loans that stand, in the order in which they were made
 --     Lent loan person role   the loan is of that role to that person
---     OnLoan l person role   such a loan stands
+--     OnLoan l person role    such a loan stands
 --     Filtered P xs ys        ys is what is left of xs when those are taken out of which P does not hold
 use Rattle.std.specs.Prelude.{◌≡◌, ℕ, List, [], ◌∷◌, take, Some}
 use Rattle.std.specs.List.{slice_get}

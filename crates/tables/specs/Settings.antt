@@ -1,10 +1,10 @@
 -- SETTINGS: who is entitled by rules, and which loans may stand, given records and a minute.
 --     Setting                     a rulebook, a policy, a table of seniority, the records of the persons and the minute
---     MetBy s person i           the person meets rule i
---     ByRules s person role      the person is entitled by rules
---     GrantedBy s person role i  rule i is among the granting rules that the person meets
---     DeniedBy s person role i   rule i is among the denying rules that the person meets
---     MayStand s loan            the loan is not due, its lender is entitled by rules, and its borrower meets no denying rule
+--     MetBy s person i            the person meets rule i
+--     ByRules s person role       the person is entitled by rules
+--     GrantedBy s person role i   rule i is among the granting rules that the person meets
+--     DeniedBy s person role i    rule i is among the denying rules that the person meets
+--     MayStand s loan             the loan is not due, its lender is entitled by rules, and its borrower meets no denying rule
 use Rattle.std.specs.Prelude.{◌≡◌, ℕ, ◌<◌, List, Some}
 use Rattle.std.specs.List.{slice_get}
 use Rattle.kinds.specs.Kinds.{Meaning}
