@@ -1,5 +1,5 @@
 -- Why the shipped kinds keep the law, and why their answers to `implies` are the right ones.
--- Lemmas, not words: an impl gives the proof of its law, and finds it in specs/ alone.
+-- Lemmas, not words: an impl gives the proof of its law itself, and can name its crate's specs/ but not its proofs/.
 use Rattle.std.specs.Prelude.{◌≡◌, ℕ, Bool, true, false, not, ◌&&◌, Decides, nat_lt, refl}
 use Rattle.std.proofs.Common.{sym, ◌∙◌, ⊎_elim}
 use Rattle.std.proofs.lemmas.Bool.{and_from, and_parts, and_right, cases_Bool, both_ways, lt-ltb, not-true, not_from_false}

@@ -1,5 +1,5 @@
 -- Reading a pair: its halves one after the other.
--- Lemmas, not words: an impl gives the proof of its law, and finds it in specs/ alone.
+-- Lemmas, not words: an impl gives the proof of its law itself, and can name its crate's specs/ but not its proofs/.
 use Rattle.std.specs.Prelude.{◌≡◌, ℕ, ◌+◌, ◌-◌, ◌≤◌, List, length, drop, Ok, Err}
 use Rattle.std.proofs.Common.{sym, ap, ◌∙◌, arith, length-drop}
 use Rattle.kinds.specs.declared.file_kind.TestFault.{TestFault}

@@ -38,7 +38,7 @@ module _ {V S : Type 0} (p : Plant V S) where
       cond_both (granted e.reply) (records_of e.call (records p log)) (records p log) (λ now. length now ≡ length p.register)
       (λ _. records_of_long e.call (records p log) ∙ old) (λ _. old)
 
-  -- the first thirty_two of the loans held are different; and thirty_two different ones are held only where there are as many places
+  -- the first thirty-two of the loans held are different; and thirty-two different ones are held only where there are as many places
   full_is : (old : Held V) (log : Log V) → Whole p log old → (32 ≤ length old.loans) ↔ ThirtyTwoStand p log
   full_is old log w = (
     (λ many.

@@ -11,7 +11,7 @@
 --     Recalled loan log        the newest call is a granted recall of such a loan
 --     LoanEnded loan log       it is recalled, or due, or its lender is not entitled by rules, or its borrower meets a denying rule
 --     StandsAfter log loan     a granted lend made the loan, and nothing ended it since
---     ThirtyTwoStand log       thirty_two different loans stand
+--     ThirtyTwoStand log       thirty-two different loans stand
 --     Took, Dropped, Closed    the newest call is a granted take or drop of the role at the panel, or a granted close of the panel
 --     EntitledAfter log person role     entitled by rules, or by a loan that stands
 --     RoleEnded at role log    it is dropped, or the panel is closed, or the panel's person is not entitled to it

@@ -1,5 +1,6 @@
 -- Why the shipped policies keep the three laws, and what local denial says in plain words.
--- Lemmas, not words: an impl gives the proofs of its laws, and finds them in specs/ alone. They speak of
+-- Lemmas, not words: an impl gives the proofs of its laws itself, and can name its crate's specs/ but not its proofs/.
+-- They speak of
 --     Apart n t i     rule i is comparable with no rule of n, by the table t
 --     Locally p n t   some rule of p is apart from the rules of n
 use Rattle.std.specs.Prelude.{◌≡◌, ℕ, Bool, true, false, not, ◌&&◌, Decides}

@@ -10,7 +10,7 @@ mod words;
 use std::env;
 use std::process::ExitCode;
 
-// What went wrong is on standard error by now, where it can be told at all.
+// A word that cannot be read is named on standard error by now; where a write failed there is nothing more to say.
 fn main(rt: HostRuntime) -> ExitCode {
     match run(&rt) {
         Ok(()) => ExitCode::SUCCESS,

@@ -19,7 +19,7 @@ pub(super) fn ruling<'a, K: Kind, P: Policy>(
     senior: &'a Seniority,
     clock: u32,
 ) -> Ruling<'a, K, P>
-    ensures rules_by_what_is_lent { setting K.meaning P.judge result ≡ by (moment_of (book_of K.meaning book.entry.now rules.now entries.now) (P.judge policy.now) register.now clock) senior.now }
+    ensures rules_by_what_is_lent { setting K.meaning P.judge result ≡ by (moment_of (book_of K.meaning book.now rules.now entries.now) (P.judge policy.now) register.now clock) senior.now }
 {
     Ruling {
         view: book.view::<K>(rules, entries),
