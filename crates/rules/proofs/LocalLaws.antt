@@ -1,11 +1,11 @@
 -- What the loops of local denial gather and look for.
 use Rattle.std.proofs.Common.{◌≡◌, ℕ, ◌+◌, ◌<◌, ◌≤◌, true, false, ◌||◌, Decides, sym, ap, ◌∙◌, ⊎_elim, arith}
-use Rattle.std.proofs.lemmas.Bool.{cases_eq, cases_Bool, both_ways, or_cases, or_left, or_right}
+use Rattle.std.proofs.lemmas.Bool.{cases_Bool, both_ways, or_cases, or_left, or_right}
 use Rattle.std.proofs.lemmas.Bool.Decides.{Decides-like}
 use Rattle.sets.specs.declared.set.Set.{Set}
-use Rattle.sets.specs.Members.{member}
-use Rattle.sets.proofs.MemberLaws.{member_below}
-use Rattle.sets.proofs.Gathering.{Holds, holds_none, holds_like}
+use Rattle.sets.specs.Members.{member, LowestFrom, EmptyFrom}
+use Rattle.sets.proofs.Gathering.{Holds, holds_none}
+use Rattle.sets.proofs.Reading.{read_more, read_all}
 use Rattle.rules.specs.declared.seniority.Seniority.{Seniority}
 use Rattle.rules.specs.Ranks.{is_senior}
 use Rattle.rules.specs.PolicyLaws.{Apart}
@@ -18,28 +18,22 @@ module _ (n : Set) (table : Seniority) where
   pub below_none : (s : Set) → ((k : ℕ) → member s k ≡ false) → Holds (Below 0) s
   below_none s empty = holds_none (Below 0) s empty (λ i w. let lt = w.1 in let z : ⊥ = omega arith in z)
 
-  pub below_same : (j : ℕ) (s u : Set) → u ≡ s → member n j ≡ false → Holds (Below j) s → Holds (Below (j + 1)) u
-  below_same j s u e none = holds_like (Below j) (Below (j + 1)) s u e
-      (λ i w. let lt = w.1 in (w.0, omega arith, w.2, w.3))
-      (λ i w. (w.0, ⊎_elim (λ q. absurd (both_ways (member n j) none (rw q at w.2))) (λ ne. let lt = w.1 in omega arith) (cases_eq w.0 j), w.2, w.3))
+  pub below_with : (from j : ℕ) (s row u : Set) → LowestFrom n from j → ((i : ℕ) → member row i ≡ is_senior table j i) → ((i : ℕ) → member u i ≡ (member s i || member row i)) → Holds (Below from) s → Holds (Below (j + 1)) u
+  below_with from j s row u low row_is union-is held i = (
+    (λ m. ⊎_elim
+        (λ old. let w = (held i).0 old in let lt = w.1 in let ge = low.reached in (w.0, omega arith, w.2, w.3))
+        (λ new. (j, omega arith, low.held, sym (row_is i) ∙ new))
+        (or_cases (member s i) (member row i) (sym (union-is i) ∙ m))),
+    (λ w. union-is i ∙ ⊎_elim
+        (λ q. or_right (member s i) (member row i) (row_is i ∙ rw q at w.3))
+        (λ before. or_left (member s i) (member row i) ((held i).1 (w.0, before, w.2, w.3)))
+        (read_more n from j w.0 low w.2 w.1)),
+  )
 
-  pub below_with : (j : ℕ) (s row t u : Set) → u ≡ t → member n j ≡ true → ((i : ℕ) → member row i ≡ is_senior table j i) → ((i : ℕ) → member t i ≡ (member s i || member row i)) → Holds (Below j) s → Holds (Below (j + 1)) u
-  below_with j s row t u e denies row_is union-is held i =
-      let at : member u i ≡ (member s i || member row i) = ap (λ x. member x i) e ∙ union-is i in (
-        (λ m. ⊎_elim
-            (λ old. let w = (held i).0 old in let lt = w.1 in (w.0, omega arith, w.2, w.3))
-            (λ new. (j, omega arith, denies, sym (row_is i) ∙ new))
-            (or_cases (member s i) (member row i) (sym at ∙ m))),
-        (λ w. at ∙ ⊎_elim
-            (λ q. or_right (member s i) (member row i) (row_is i ∙ rw q at w.3))
-            (λ ne. or_left (member s i) (member row i) ((held i).1 (w.0, (let lt = w.1 in omega arith), w.2, w.3)))
-            (cases_eq w.0 j)),
-      )
-
-  pub below_all : (j : ℕ) (s : Set) → 64 ≤ j → Holds (Below j) s → Holds (λ i. (k : ℕ) × (member n k ≡ true) × (is_senior table k i ≡ true)) s
-  below_all j s past held i = Decides-like (member s i)
+  pub below_all : (from : ℕ) (s : Set) → EmptyFrom n from → Holds (Below from) s → Holds (λ i. (k : ℕ) × (member n k ≡ true) × (is_senior table k i ≡ true)) s
+  below_all from s none held i = Decides-like (member s i)
       (λ w. (w.0, w.2, w.3))
-      (λ w. (w.0, (let lt = member_below n w.0 w.1 in omega arith), w.1, w.2))
+      (λ w. (w.0, read_all n from w.0 none w.1, w.1, w.2))
       (held i)
 
   -- what the two tests of the code tell of a rule

@@ -23,8 +23,8 @@ impl Policy for LocalDenial {
 
     fn says(&self, granting: Set, denying: Set, senior: &Seniority) -> bool {
         let below = below_some(denying, senior);
-        for i in 0..64u8 {
-            if granting.contains(i) && !below.contains(i) && above_none(i, denying, senior) {
+        for i in granting.members() {
+            if !below.contains(i) && above_none(i, denying, senior) {
                 return true;
             }
         }
@@ -37,10 +37,8 @@ fn below_some(denying: Set, table: &Seniority) -> Set
     ensures members_are_the_rules_junior_to_a_denying_one { (i : ℕ) → Decides (member result i) ((j : ℕ) × (member denying j ≡ true) × (is_senior table.now j i ≡ true)) }
 {
     let mut below = Set::new();
-    for j in 0..64u8 {
-        if denying.contains(j) {
-            below = below.union(table.juniors(j));
-        }
+    for j in denying.members() {
+        below = below.union(table.juniors(j));
     }
     below
 }

@@ -3,3 +3,4 @@ pub mod MemberLaws
 pub mod Gathering
 pub mod Listing
 pub mod Making
+pub mod Reading

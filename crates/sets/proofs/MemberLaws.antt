@@ -1,11 +1,11 @@
 -- Sets by their members.
-use Rattle.std.proofs.Common.{◌≡◌, ℕ, ◌^◌, ◌<◌, ◌≤◌, Bool, true, false, not, ◌&&◌, eqb, Decides, sym, refl, ap, ◌∙◌, subst, ⊎_elim}
+use Rattle.std.proofs.Common.{◌≡◌, ℕ, ◌^◌, ◌<◌, ◌≤◌, Bool, true, false, not, ◌&&◌, eqb, Decides, MatchOption, Some, None, Option, sym, refl, ap, ◌∙◌, subst, ⊎_elim}
 use native.Mathlib.Bridge.{le_prop}
 use lib.Bits.{bit_and}
 use Rattle.std.proofs.lemmas.Bool.{cases_lt, cases_Bool, both_ways, and_from, and_left, and_right, and_cases, and_parts, not_from_true, not_from_false, not-true, not-false, eqb-true, eq-eqb}
 use Rattle.std.proofs.lemmas.Bool.Decides.{Decides-below_or, not_from_Decides}
 use Rattle.sets.specs.declared.set.Set.{Set}
-use Rattle.sets.specs.Members.{bit, member, some_below, some, empty, subset, disjoint}
+use Rattle.sets.specs.Members.{bit, member, some_below, some, empty, subset, disjoint, LowestFrom, EmptyFrom}
 use Rattle.sets.proofs.BitLaws.{bit-zero, bit_past, bit-and, same_bits}
 
 pub member_past : (s : Set) (i : ℕ) → 64 ≤ i → member s i ≡ false
@@ -110,3 +110,8 @@ shared_member s t not-apart =
     (λ n. absurd (not-apart (λ i m.
     ⊎_elim (λ h. absurd (both_ways (both i) (none_passes both n i (member_below s i m)) (and_from (member s i) (member t i) m h))) (λ z. z) (cases_Bool (member t i)))))
     (cases_Bool (some both))
+
+-- the first number to be a member, of those that a set can hold
+pub lowest_from : (s : Set) (from : ℕ) (r : Option ℕ) → MatchOption r ((k : ℕ) → from ≤ k → k < 64 → member s k ≡ false) (λ i. (from ≤ i) × (i < 64) × (member s i ≡ true) × ((k : ℕ) → from ≤ k → k < i → member s k ≡ false)) → MatchOption r (EmptyFrom s from) (LowestFrom s from)
+lowest_from s from None none = λ i ge. ⊎_elim (λ lt. none i ge lt) (λ past. member_past s i past) (cases_lt i 64)
+lowest_from s from (Some i) first = record { held = first.2; reached = first.0; none_lower = first.3 }

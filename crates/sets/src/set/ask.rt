@@ -42,11 +42,6 @@ impl Set {
     pub(super) fn first_from(self, from: u8) -> Option<u8>
         ensures gives_the_lowest_member_from_there { MatchOption result (EmptyFrom self from) (LowestFrom self from) }
     {
-        for i in from..64u8 {
-            if self.contains(i) {
-                return Some(i);
-            }
-        }
-        None
+        (from..64).find(|i| self.contains(*i))
     }
 }

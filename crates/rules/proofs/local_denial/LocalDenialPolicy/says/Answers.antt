@@ -1,37 +1,48 @@
-use Rattle.std.proofs.Common.{◌<◌, sym, ⊎_elim, arith, below_more}
-use Rattle.std.proofs.lemmas.Bool.{cases_Bool, both_ways}
+use Rattle.std.proofs.Common.{◌≡◌, sym, ap, ◌∙◌, ⊎_elim, arith}
+use Rattle.std.proofs.lemmas.Bool.{cases_Bool}
 use Rattle.std.proofs.lemmas.Bool.Decides.{not_from_Decides}
-use Rattle.sets.specs.Members.{member}
-use Rattle.sets.proofs.MemberLaws.{member_below}
+use Rattle.sets.proofs.Reading.{read_on, read_all}
 use Rattle.rules.specs.Policies.{local_denial}
 use Rattle.rules.proofs.LocalLaws.{apart_from, apart_not_below}
-use Rattle.rules.specs.PolicyLaws.{local_decides}
+use Rattle.rules.specs.PolicyLaws.{Apart, local_decides}
 use Rattle.rules.proofs.local_denial.LocalDenialPolicy.says.Goals as goal
-use Rattle.rules.proofs.local_denial.LocalDenialPolicy.says.Goals.{else-contains-via-then-contains+then-not-contains+else-above_none, else-contains-via-then-contains+else-not-contains, else-contains-via-else-contains}
+use Rattle.rules.proofs.local_denial.LocalDenialPolicy.says.Goals.{else-not-contains-via-then-not-contains+else-above_none, else-not-contains-via-else-not-contains}
+
+pub loop-i-init : goal.loop-i-init
+loop-i-init c =
+    let start : c.into_iter-i-iterator.result.from ≡ 0 = cc in
+    ((λ k held lt. let z : ⊥ = omega (arith, start, lt) in absurd z), cc)
 
 pub returns-then-above_none : goal.returns-then-above_none
-returns-then-above_none c = record {
-  says_what_it_means = sym ((local_decides c.args.granting c.args.denying c.args.senior.now).1 (
-    c.loop-i.i,
-    sym c.if-contains.ensures.tells_whether_it_is_a_member,
-    apart_from c.args.denying c.args.senior.now c.below_some-below.result c.loop-i.i
-        c.below_some-below.ensures.members_are_the_rules_junior_to_a_denying_one
-        (sym c.if-not-contains.ensures.tells_whether_it_is_a_member)
-        (c.above_none.ensures.tells_whether_it_is_senior_to_no_denying_rule.0 c.if-above_none.true),
-  ));
-}
+returns-then-above_none c =
+    let low = rw c.loop-i.invariant.1 at c.in-Some.ensures.steps.0 in
+    record {
+      says_what_it_means = sym ((local_decides c.args.granting c.args.denying c.args.senior.now).1 (
+        c.in-Some.i,
+        low.held,
+        apart_from c.args.denying c.args.senior.now c.below_some-below.result c.in-Some.i
+            c.below_some-below.ensures.members_are_the_rules_junior_to_a_denying_one
+            (sym c.if-not-contains.ensures.tells_whether_it_is_a_member)
+            (c.above_none.ensures.tells_whether_it_is_senior_to_no_denying_rule.0 c.if-above_none.true),
+      ));
+    }
 
 pub loop-i-preserved : goal.loop-i-preserved
-loop-i-preserved c = below_more _ _ c.loop-i.invariant (elim c.else-contains.branch [
-  | else-contains-via-then-contains+then-not-contains+else-above_none w ↦
-      λ held apart. not_from_Decides w.above_none.result w.above_none.ensures.tells_whether_it_is_senior_to_no_denying_rule w.if-above_none.false (λ j denies. (apart j denies).0)
-  | else-contains-via-then-contains+else-not-contains w ↦
-      λ held apart. apart_not_below c.args.denying c.args.senior.now c.below_some-below.result c.loop-i.i
-      c.below_some-below.ensures.members_are_the_rules_junior_to_a_denying_one
-      (sym w.if-not-contains.ensures.tells_whether_it_is_a_member) apart
-  | else-contains-via-else-contains w ↦
-      λ held apart. both_ways (member c.args.granting c.loop-i.i) (sym w.if-contains.ensures.tells_whether_it_is_a_member) held
-])
+loop-i-preserved c =
+    let next = c.in-Some.ensures.steps in
+    let low = rw c.loop-i.invariant.1 at next.0 in
+    let refused : Apart c.args.denying c.args.senior.now c.in-Some.i → ⊥ = elim c.else-not-contains.branch [
+      | else-not-contains-via-then-not-contains+else-above_none w ↦
+          λ apart. not_from_Decides w.above_none.result w.above_none.ensures.tells_whether_it_is_senior_to_no_denying_rule w.if-above_none.false (λ j denies. (apart j denies).0)
+      | else-not-contains-via-else-not-contains w ↦
+          λ apart. apart_not_below c.args.denying c.args.senior.now c.below_some-below.result c.in-Some.i
+          c.below_some-below.ensures.members_are_the_rules_junior_to_a_denying_one
+          (sym w.if-not-contains.ensures.tells_whether_it_is_a_member) apart
+    ] in
+    (
+      (λ k held lt. read_on c.args.granting c.loop-i.i-iterator.from c.in-Some.i (λ i. Apart c.args.denying c.args.senior.now i → ⊥) low refused c.loop-i.invariant.0 k held (rw next.1 at lt)),
+      ap (λ m. m.set) next.1 ∙ c.loop-i.invariant.1,
+    )
 
 pub returns : goal.returns
 returns c = record {
@@ -40,8 +51,7 @@ returns c = record {
       ⊎_elim
       (λ y.
       let w = (local_decides c.args.granting c.args.denying c.args.senior.now).0 y in
-      let small : w.0 < 64 = member_below c.args.granting w.0 w.1 in
-      absurd (c.loop-i.invariant w.0 (omega (arith, c.loop-i-test.false)) w.1 w.2))
+      absurd (c.loop-i.invariant.0 w.0 w.1 (read_all c.args.granting c.loop-i.i-iterator.from w.0 (rw c.loop-i.invariant.1 at c.in-None.ensures.steps.0) w.1) w.2))
       (λ z. sym z)
       (cases_Bool answer);
 }

@@ -4,4 +4,5 @@ use Rattle.rules.specs.PolicyLaws.{Apart}
 use Rattle.rules.proofs.local_denial.LocalDenialPolicy.says.Given as goal
 
 abbrev pub invariant-loop-i : goal.invariant-loop-i
-invariant-loop-i l = (k : ℕ) → k < l.i → member l.granting k ≡ true → Apart l.denying l.senior k → ⊥
+invariant-loop-i l =
+    ((k : ℕ) → member l.fn.granting k ≡ true → k < l.i-iterator.from → Apart l.denying l.senior k → ⊥) × (l.i-iterator.set ≡ l.fn.granting)

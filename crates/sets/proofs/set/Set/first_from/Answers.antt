@@ -1,20 +1,10 @@
-use Rattle.std.proofs.Common.{sym, ⊎_elim, arith, below_more}
-use Rattle.std.proofs.lemmas.Bool.{cases_lt}
-use Rattle.sets.proofs.MemberLaws.{member_past}
+use Rattle.std.proofs.Common.{◌≡◌, ℕ, true, false, rules}
+use Rattle.std.proofs.lemmas.Iterator.{first_from_Range}
+use Rattle.sets.specs.Members.{member}
+use Rattle.sets.proofs.MemberLaws.{lowest_from}
 use Rattle.sets.proofs.set.Set.first_from.Goals as goal
-
-pub returns-then-contains : goal.returns-then-contains
-returns-then-contains c = record {
-  gives_the_lowest_member_from_there = record {
-    held = sym c.if-contains.ensures.tells_whether_it_is_a_member;
-    reached = omega (arith, c.loop-i.auto.i);
-    none_lower = λ j ge lt. c.loop-i.invariant j lt ge;
-  };
-}
-
-pub loop-i-preserved : goal.loop-i-preserved
-loop-i-preserved c = below_more _ _ c.loop-i.invariant (λ _. sym c.if-contains.ensures.tells_whether_it_is_a_member)
+use borrow.Author.Tests.{tests}
 
 pub returns : goal.returns
-returns c = record
-    { gives_the_lowest_member_from_there = λ i ge. ⊎_elim (λ lt. c.loop-i.invariant i (omega (arith, c.loop-i-test.false)) ge) (λ past. member_past c.args.self i past) (cases_lt i 64) }
+returns c =
+    record { gives_the_lowest_member_from_there = lowest_from c.args.self c.args.from c.find.result (first_from_Range _ _ _ _ (λ i. member c.args.self i ≡ true) (λ i. member c.args.self i ≡ false) c.find.ensures.ran (λ x q k. search (rules, tests)) (λ x q k. search (rules, tests))) }
