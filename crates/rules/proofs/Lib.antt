@@ -2,6 +2,7 @@ pub mod Computing
 pub mod Deciding
 pub mod LocalLaws
 pub mod MoreLaws
+pub mod Numbers
 pub mod Places
 pub mod RankLaws
 pub mod Ranking

@@ -7,7 +7,7 @@ use Rattle.sets.specs.declared.set.Set.{Set}
 use Rattle.sets.specs.Members.{member}
 use Rattle.sets.proofs.MemberLaws.{member_below, shared_member}
 use Rattle.sets.proofs.Gathering.{Holds, holds_none, holds_like, holds_with}
-use Rattle.kinds.specs.Kinds.{Implied, meets}
+use Rattle.kinds.specs.Kinds.{Implied}
 use Rattle.rules.specs.declared.entry.Entry.{Entry}
 use Rattle.rules.specs.declared.rule.Rule.{Rule}
 use Rattle.rules.specs.Entries.{Live}
@@ -15,21 +15,12 @@ use Rattle.rules.specs.Rules.{Book, Meets, Grants, Denies, Leads}
 use Rattle.rules.proofs.Places.{found_within, found_one}
 
 module _ {V S : Type 0} (b : Book V S) where
-  pub meets_not : (v : V) (i : ℕ) (rule : Rule S) → slice_get b.rules i ≡ Some rule → meets b.meaning v rule.test ≡ false → Meets b v i → ⊥
-  meets_not v i rule found e met =
-      both_ways (meets b.meaning v rule.test) e
-      (ap (λ (r : Rule S). meets b.meaning v r.test) (found_one b.rules i rule met.rule found met.found) ∙ met.met)
-
   pub met_within : (v : V) (i : ℕ) → Meets b v i → i < length b.rules
   met_within v i met = found_within b.rules i met.rule met.found
 
   -- some rule stands at the place, and its test is implied
   abbrev pub ImpliesAt : S → ℕ → Type 0
   ImpliesAt test j = (rule : Rule S) × (slice_get b.rules j ≡ Some rule) × Implied b.meaning test rule.test
-
-  pub implies_not : (test : S) (j : ℕ) (rule : Rule S) → slice_get b.rules j ≡ Some rule → (Implied b.meaning test rule.test → ⊥) → ImpliesAt test j → ⊥
-  implies_not test j rule found none w =
-      none (subst (λ (r : Rule S). Implied b.meaning test r.test) (found_one b.rules j w.0 rule w.1 found) w.2)
 
   -- an entry among the first n leads from the one role to the other
   abbrev pub LeadsAmong : ℕ → ℕ → ℕ → ℕ → Type 0

@@ -1,5 +1,5 @@
 -- From the sets that code has gathered to who is entitled, and back.
-use Rattle.std.proofs.Common.{◌≡◌, ℕ, suc, Bool, true, false, not, ◌↔◌, List, [], ◌∷◌, length, Decides, sym, refl, ap, ◌∙◌, subst, ⊎_elim, zero-le, arith}
+use Rattle.std.proofs.Common.{◌≡◌, ℕ, suc, Bool, true, false, not, ◌↔◌, Ok, Err, List, [], ◌∷◌, length, Decides, sym, refl, ap, ◌∙◌, subst, ⊎_elim, zero-le, arith}
 use native.Mathlib.Nat.{ℕ_set}
 use Rattle.std.specs.List.{slice_get}
 use Rattle.std.proofs.lemmas.Bool.{both_ways, cases_Bool, and_parts, and_from, not-true, not_from_false}
@@ -8,13 +8,12 @@ use Rattle.sets.specs.declared.set.Set.{Set}
 use Rattle.sets.specs.Members.{member, empty}
 use Rattle.sets.proofs.MemberLaws.{same_members, some_member, member-not-empty, empty_decides}
 use Rattle.sets.proofs.Gathering.{Holds}
-use Rattle.rules.specs.declared.claim.Verdict.{Verdict}
-use Rattle.rules.specs.declared.claim.Verdict.TheVariants.{Entitled, NothingGrants, Denied}
+use Rattle.rules.specs.declared.claim.Objection.TheVariants.{NothingGrants, Denied}
 use Rattle.rules.specs.declared.seniority.Seniority.{Seniority}
 use Rattle.rules.specs.Policies.{Judge, NothingGrantingIsNo, permission, denial, local_denial}
 use Rattle.rules.specs.Ranks.{is_senior, row_holds}
 use Rattle.rules.specs.Rules.{Book, Meets, Senior, Grants, Denies, Granting, Denying, Allowed, AllowedBy, Permitted, PermittedAndNotDenied, PermittedAndNotDeniedLocally}
-use Rattle.rules.specs.Verdicts.{Judged, Ruled}
+use Rattle.rules.specs.Verdicts.{Verdict, Judged, Ruled}
 use Rattle.rules.specs.PolicyLaws.{local_decides}
 
 -- sets and tables of which the same holds are one
@@ -66,9 +65,9 @@ module _ {V S : Type 0} (b : Book V S) (v : V) (role now : ℕ) where
     )
 
     pub ruled : (judge : Judge) (verdict : Verdict) → Judged (judge p n t) (record { granting = p; denying = n }) verdict → Ruled b judge v role now verdict
-    ruled judge Entitled j = (allowed_is judge).0 j
-    ruled judge NothingGrants none = λ w. both_ways (member p w.0) (none w.0) ((g.granting w.0).1 w.1)
-    ruled judge (Denied rule) j = (
+    ruled judge (Ok done) j = (allowed_is judge).0 j
+    ruled judge (Err NothingGrants) none = λ w. both_ways (member p w.0) (none w.0) ((g.granting w.0).1 w.1)
+    ruled judge (Err (Denied rule)) j = (
       not_from_Decides (judge p n t) (allowed_is judge) j.0,
       (j.1.0, (g.granting j.1.0).0 j.1.1),
       (g.denying rule).0 j.2.held,
@@ -112,28 +111,28 @@ module _ {V S : Type 0} (b : Book V S) (v : V) (role now : ℕ) where
       )),
     )
 
-    -- a verdict is Entitled exactly where the policy says yes
-    entitled_is : (answer : Bool) (verdict : Verdict) → (((i : ℕ) → member p i ≡ false) → answer ≡ false) → Judged answer (record { granting = p; denying = n }) verdict → Decides answer (verdict ≡ Entitled)
-    entitled_is answer Entitled never j = ((λ e. refl), (λ e. j))
-    entitled_is answer NothingGrants never j =
+    -- a record is entitled exactly where the policy says yes
+    entitled_is : (answer : Bool) (verdict : Verdict) → (((i : ℕ) → member p i ≡ false) → answer ≡ false) → Judged answer (record { granting = p; denying = n }) verdict → Decides answer (verdict ≡ Ok tt)
+    entitled_is answer (Ok done) never j = ((λ e. refl), (λ e. j))
+    entitled_is answer (Err NothingGrants) never j =
         ((λ e. absurd (both_ways answer (never j) e)), (λ e. absurd (let z : ◌≡◌ {A = ℕ} 0 1 = cc in let y : ⊥ = omega arith in y)))
-    entitled_is answer (Denied rule) never j =
+    entitled_is answer (Err (Denied rule)) never j =
         ((λ e. absurd (both_ways answer j.0 e)), (λ e. absurd (let z : ◌≡◌ {A = ℕ} 0 1 = cc in let y : ⊥ = omega arith in y)))
 
     -- where the policy says what the one that answers Q says
-    entitled_as : (judge shipped : Judge) (Q : Type 0) (verdict : Verdict) → judge ≡ shipped → NothingGrantingIsNo judge → Judged (judge p n t) (record { granting = p; denying = n }) verdict → Decides (shipped p n t) Q → (verdict ≡ Entitled) ↔ Q
+    entitled_as : (judge shipped : Judge) (Q : Type 0) (verdict : Verdict) → judge ≡ shipped → NothingGrantingIsNo judge → Judged (judge p n t) (record { granting = p; denying = n }) verdict → Decides (shipped p n t) Q → (verdict ≡ Ok tt) ↔ Q
     entitled_as judge shipped Q verdict e never j d =
         let told = entitled_is (judge p n t) verdict (never p n t) j in
         let same : judge p n t ≡ shipped p n t = ap (λ f. f p n t) e in
         ((λ x. d.0 (sym same ∙ told.1 x)), (λ q. told.0 (same ∙ d.1 q)))
 
-    pub permission_words : (judge : Judge) (verdict : Verdict) → NothingGrantingIsNo judge → Judged (judge p n t) (record { granting = p; denying = n }) verdict → judge ≡ permission → (verdict ≡ Entitled) ↔ Permitted b v role now
+    pub permission_words : (judge : Judge) (verdict : Verdict) → NothingGrantingIsNo judge → Judged (judge p n t) (record { granting = p; denying = n }) verdict → judge ≡ permission → (verdict ≡ Ok tt) ↔ Permitted b v role now
     permission_words judge verdict never j e = entitled_as judge permission (Permitted b v role now) verdict e never j permission_is
 
-    pub denial_words : (judge : Judge) (verdict : Verdict) → NothingGrantingIsNo judge → Judged (judge p n t) (record { granting = p; denying = n }) verdict → judge ≡ denial → (verdict ≡ Entitled) ↔ PermittedAndNotDenied b v role now
+    pub denial_words : (judge : Judge) (verdict : Verdict) → NothingGrantingIsNo judge → Judged (judge p n t) (record { granting = p; denying = n }) verdict → judge ≡ denial → (verdict ≡ Ok tt) ↔ PermittedAndNotDenied b v role now
     denial_words judge verdict never j e = entitled_as judge denial (PermittedAndNotDenied b v role now) verdict e never j denial_is
 
-    pub local_words : (judge : Judge) (verdict : Verdict) → NothingGrantingIsNo judge → Judged (judge p n t) (record { granting = p; denying = n }) verdict → judge ≡ local_denial → (verdict ≡ Entitled) ↔ PermittedAndNotDeniedLocally b v role now
+    pub local_words : (judge : Judge) (verdict : Verdict) → NothingGrantingIsNo judge → Judged (judge p n t) (record { granting = p; denying = n }) verdict → judge ≡ local_denial → (verdict ≡ Ok tt) ↔ PermittedAndNotDeniedLocally b v role now
     local_words judge verdict never j e = entitled_as judge local_denial (PermittedAndNotDeniedLocally b v role now) verdict e never j local_is
 
   -- the sets of a claim to the rules met

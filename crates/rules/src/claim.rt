@@ -9,10 +9,9 @@ pub struct Claim {
     pub denying: Set,
 }
 
-// What rules and policy say of a record and a role.
+// Why rules and policy do not entitle a record to a role.
 #[derive(Clone, Copy)]
-pub enum Verdict {
-    Entitled,
+pub enum Objection {
     NothingGrants,
     Denied { rule: u8 },
 }

@@ -12,7 +12,7 @@ mod seniority;
 mod shipped;
 mod view;
 
-pub use claim::{Claim, Verdict};
+pub use claim::{Claim, Objection};
 pub use denial::Denial;
 pub use entry::Entry;
 pub use local_denial::LocalDenial;

@@ -7,6 +7,7 @@ use kinds::Kind;
 mod claims;
 mod lend;
 mod met;
+mod numbers;
 mod ranks;
 mod roles;
 mod verdicts;

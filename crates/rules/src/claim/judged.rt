@@ -1,24 +1,24 @@
 ghost use Rattle.std.specs.Prelude.{◌≡◌};
 ghost use Rattle.rules.specs.Verdicts.{Judged};
 
-use super::{Claim, Verdict};
+use super::{Claim, Objection};
 use crate::policy::Policy;
 use crate::seniority::Seniority;
 
 impl Claim {
     // What the policy makes of the claim.
-    pub fn judged<P: Policy>(self, policy: &P, senior: &Seniority) -> Verdict
+    pub fn judged<P: Policy>(self, policy: &P, senior: &Seniority) -> Result<(), Objection>
         ensures entitled_exactly_when_the_policy_says_yes { Judged (P.judge policy.now self.granting self.denying senior.now) self result }
     {
         if self.is_allowed(policy, senior) {
-            return Verdict::Entitled;
+            return Ok(());
         }
         if self.granting.is_empty() {
-            return Verdict::NothingGrants;
+            return Err(Objection::NothingGrants);
         }
         // A policy says yes where some rule grants and none denies, so here some rule denies.
         match self.denying.first() {
-            Some(rule) => Verdict::Denied { rule },
+            Some(rule) => Err(Objection::Denied { rule }),
             None => unreachable(),
         }
     }

@@ -16,9 +16,9 @@ impl Seniority {
     pub fn juniors(&self, i: u8) -> Set
         ensures members_are_the_juniors { (j : ℕ) → member result j ≡ is_senior self.now i j }
     {
-        if i >= 64 {
-            return Set::new();
+        match self.rows.get(usize::from(i)) {
+            Some(row) => *row,
+            None => Set::new(),
         }
-        self.rows[i as usize]
     }
 }

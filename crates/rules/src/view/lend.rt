@@ -13,11 +13,9 @@ impl<'m, K: Kind> View<'m, K> {
         ensures reads_the_first_64_rules { result.rules.now ≡ take 64 rules.now }
         ensures reads_all_entries { result.entries.now ≡ entries.now }
     {
-        if rules.len() <= LIMIT {
-            return View { rules, entries };
-        }
+        let most = LIMIT.min(rules.len());
         View {
-            rules: &rules[0..LIMIT],
+            rules: &rules[..most],
             entries,
         }
     }

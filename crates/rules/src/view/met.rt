@@ -11,12 +11,6 @@ impl<'m, K: Kind> View<'m, K> {
     pub fn met_by(&self, value: K::Value) -> Set
         ensures members_are_exactly_the_rules_met { (i : ℕ) → Decides (member result i) (Meets (seen K.meaning self.now) value i) }
     {
-        let mut met = Set::new();
-        for (i, rule) in self.rules.iter().enumerate() {
-            if K::meets(value, rule.test) {
-                met = met.with(i as u8);
-            }
-        }
-        met
+        self.numbers_of(|rule| K::meets(value, rule.test))
     }
 }

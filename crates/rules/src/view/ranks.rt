@@ -27,12 +27,6 @@ impl<'m, K: Kind> View<'m, K> {
     fn implied_by(&self, test: K::Test) -> Set
         ensures members_are_the_rules_whose_test_is_implied { (j : ℕ) → Decides (member result j) ((rule : Rule K.Test) × (slice_get self.now.rules.now j ≡ Some rule) × Implied K.meaning test rule.test) }
     {
-        let mut implied = Set::new();
-        for (j, rule) in self.rules.iter().enumerate() {
-            if K::implies(test, rule.test) {
-                implied = implied.with(j as u8);
-            }
-        }
-        implied
+        self.numbers_of(|rule| K::implies(test, rule.test))
     }
 }

@@ -38,8 +38,7 @@ loop-i-preserved c =
           λ apart. apart_not_below c.args.denying c.args.senior.now c.below_some-below.result c.in-Some.i
           c.below_some-below.ensures.members_are_the_rules_junior_to_a_denying_one
           (sym w.if-not-contains.ensures.tells_whether_it_is_a_member) apart
-    ] in
-    (
+    ] in (
       (λ k held lt. read_on c.args.granting c.loop-i.i-iterator.from c.in-Some.i (λ i. Apart c.args.denying c.args.senior.now i → ⊥) low refused c.loop-i.invariant.0 k held (rw next.1 at lt)),
       ap (λ m. m.set) next.1 ∙ c.loop-i.invariant.1,
     )

@@ -1,21 +1,17 @@
-use Rattle.std.proofs.Common.{sym, ap, ◌∙◌, arith}
-use Rattle.sets.specs.Members.{member}
+use Rattle.std.proofs.Common.{◌≡◌, Some, None, rules, sym, ap, ◌∙◌}
+use Rattle.std.specs.List.{slice_get}
 use Rattle.rules.specs.Ranks.{is_senior, row_holds}
 use Rattle.std.proofs.lemmas.Option.{slice_get_read, slice_get_past}
 use Rattle.rules.proofs.seniority.Seniority.juniors.Goals as goal
 
-pub returns-then-i-ge64 : goal.returns-then-i-ge64
+pub returns-in-Some : goal.returns-in-Some
 unfolding is_senior
-returns-then-i-ge64 c = record {
-  members_are_the_juniors = λ j.
-      let t = c.args.self.now in
-      c.new.ensures.no_number_is_a_member j ∙ sym (ap (λ row. row_holds row j) (slice_get_past t.rows c.args.i (omega (arith, t.long, c.if-i-ge64.true))));
-}
+returns-in-Some c =
+    let found : slice_get c.args.self.now.rows c.args.i ≡ Some c.in-Some.row.now = search (rules, slice_get_read) in
+    record { members_are_the_juniors = λ j. sym (ap (λ row. row_holds row j) found) }
 
-pub returns : goal.returns
+pub returns-in-None : goal.returns-in-None
 unfolding is_senior
-returns c = record {
-  members_are_the_juniors = λ j.
-      let t = c.args.self.now in
-      ap (λ row. member row j) (sym c.index-self-i.is) ∙ sym (ap (λ row. row_holds row j) (slice_get_read t.rows 64 c.args.i c.index-self-i.result (sym t.long) c.if-i-ge64.false c.index-self-i.is));
-}
+returns-in-None c =
+    let past : slice_get c.args.self.now.rows c.args.i ≡ None = search (rules, slice_get_past) in
+    record { members_are_the_juniors = λ j. c.new.ensures.no_number_is_a_member j ∙ sym (ap (λ row. row_holds row j) past) }
