@@ -1,5 +1,5 @@
 -- From the sets that code gathers of a person to the words.
-use Rattle.std.proofs.Common.{◌≡◌, ℕ, ◌≤◌, true, false, length, Some, None, Decides, Option, subst, ⊎_elim, zero-le, arith, MatchOption}
+use Rattle.std.proofs.Common.{◌≡◌, ℕ, ◌≤◌, true, false, length, Some, None, Decides, Option, Ok, Err, subst, ⊎_elim, zero-le, arith, MatchOption}
 use Rattle.std.specs.List.{slice_get}
 use Rattle.std.proofs.lemmas.Bool.{both_ways, cases_Bool}
 use Rattle.std.proofs.lemmas.Bool.Decides.{Decides-like, not_from_Decides}
@@ -7,11 +7,10 @@ use Rattle.sets.specs.declared.set.Set.{Set}
 use Rattle.sets.specs.Members.{member, empty, LowestFrom, EmptyFrom}
 use Rattle.sets.proofs.MemberLaws.{empty_decides, some_member}
 use Rattle.sets.proofs.Gathering.{Holds, holds_none}
-use Rattle.rules.specs.declared.claim.Verdict.{Verdict}
-use Rattle.rules.specs.declared.claim.Verdict.TheVariants.{Entitled, NothingGrants, Denied}
+use Rattle.rules.specs.declared.claim.Objection.TheVariants.{NothingGrants, Denied}
 use Rattle.rules.specs.Policies.{NothingGrantingIsNo}
 use Rattle.rules.specs.Rules.{Meets, Grants, Denies, Granting, Denying}
-use Rattle.rules.specs.Verdicts.{Judged}
+use Rattle.rules.specs.Verdicts.{Verdict, Judged}
 use Rattle.rules.proofs.Places.{found_within, found_one}
 use Rattle.rules.proofs.VerdictLaws.{same_holds}
 use Rattle.tables.specs.Settings.{Setting, MetBy, GrantedBy, DeniedBy, ByRules}
@@ -96,9 +95,9 @@ module _ {V S : Type 0} (s : Setting V S) where
     )
 
     pub decided : (verdict : Verdict) → NothingGrantingIsNo s.judge → Judged (s.judge p n s.table) (record { granting = p; denying = n }) verdict → Decided s person role verdict
-    decided Entitled never j = (by_rules_is never).0 j
-    decided NothingGrants never none = λ i g. both_ways (member p i) (none i) ((p_are i).1 g)
-    decided (Denied rule) never j = record {
+    decided (Ok done) never j = (by_rules_is never).0 j
+    decided (Err NothingGrants) never none = λ i g. both_ways (member p i) (none i) ((p_are i).1 g)
+    decided (Err (Denied rule)) never j = record {
       refused = not_from_Decides (s.judge p n s.table) (by_rules_is never) j.0;
       granting = (j.1.0, (p_are j.1.0).0 j.1.1);
       lowest = lowest_held (DeniedBy s person role) n n_are rule j.2;

@@ -2,9 +2,9 @@
 --     Lowest In i                        i is the lowest number of which In holds
 --     Overruled s person role rule       no is said to a person to whom some rule grants the role; `rule` is the lowest denying rule
 --     Decided s person role verdict      what rules and policy say of the person and the role
-use Rattle.std.specs.Prelude.{ℕ, ◌<◌}
-use Rattle.rules.specs.declared.claim.Verdict.{Verdict}
-use Rattle.rules.specs.declared.claim.Verdict.TheVariants.{Entitled, NothingGrants, Denied}
+use Rattle.std.specs.Prelude.{ℕ, ◌<◌, Ok, Err}
+use Rattle.rules.specs.declared.claim.Objection.TheVariants.{NothingGrants, Denied}
+use Rattle.rules.specs.Verdicts.{Verdict}
 use Rattle.tables.specs.Settings.{Setting, GrantedBy, DeniedBy, ByRules}
 
 pub record Lowest (In : ℕ → Type 0) (i : ℕ) : Type 0 where
@@ -18,6 +18,6 @@ module _ {V S : Type 0} (s : Setting V S) where
     pub lowest : Lowest (DeniedBy s person role) rule
 
   abbrev pub Decided : ℕ → ℕ → Verdict → Type 0
-  Decided person role Entitled = ByRules s person role
-  Decided person role NothingGrants = (i : ℕ) → GrantedBy s person role i → ⊥
-  Decided person role (Denied rule) = Overruled person role rule
+  Decided person role (Ok done) = ByRules s person role
+  Decided person role (Err NothingGrants) = (i : ℕ) → GrantedBy s person role i → ⊥
+  Decided person role (Err (Denied rule)) = Overruled person role rule

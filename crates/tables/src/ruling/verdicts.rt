@@ -5,7 +5,7 @@ ghost use Rattle.tables.specs.Verdicts.{Decided, Lowest};
 
 use super::Ruling;
 use kinds::Kind;
-use rules::{Policy, Verdict};
+use rules::{Objection, Policy};
 use sets::Set;
 
 impl<'a, K: Kind, P: Policy> Ruling<'a, K, P> {
@@ -19,7 +19,7 @@ impl<'a, K: Kind, P: Policy> Ruling<'a, K, P> {
     }
 
     // What rules and policy say of the person and the role.
-    pub fn verdict(&self, person: u16, role: u8) -> Verdict
+    pub fn verdict(&self, person: u16, role: u8) -> Result<(), Objection>
         ensures entitled_exactly_when_the_policy_says_yes { Decided (setting K.meaning P.judge self.now) person role result }
     {
         self.claim(person, role).judged(self.policy, self.senior)
