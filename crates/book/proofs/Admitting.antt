@@ -1,9 +1,11 @@
 -- One more rule or entry at the front of the memory.
-use Rattle.std.proofs.Common.{◌≡◌, ℕ, ◌+◌, ◌<◌, ◌≤◌, Bool, true, false, cond, ◌&&◌, ltb, List, [], ◌∷◌, ◌++◌, length, take, drop, set, is_ok, Ok, Err, Result, sym, refl, ap, ◌∙◌, ⊎_elim, arith, length-set}
+use Rattle.std.proofs.Common.{◌≡◌, ℕ, ◌+◌, ◌<◌, ◌≤◌, Bool, true, false, cond, ◌&&◌, ltb, List, [], ◌∷◌, ◌++◌, length, take, drop, set, is_ok, Some, None, Ok, Err, Option, Result, sym, refl, ap, ◌∙◌, ⊎_elim, arith, length-set}
+use Rattle.std.specs.Option.{is_some}
 use Rattle.std.proofs.lemmas.List.{take_more_set, drop-set-lt, length-take-le}
 use Rattle.std.proofs.lemmas.Bool.{cond-true, cond-false, and_parts, ltb-true, cases_Bool}
 use Rattle.rules.specs.declared.entry.Entry.{Entry}
 use Rattle.rules.specs.declared.rule.Rule.{Rule}
+use Rattle.rules.specs.declared.shipped.Shipped.{Shipped}
 use Rattle.book.specs.declared.contents.Content.{Content}
 use Rattle.book.specs.declared.contents.Content.TheVariants.{NewRule, NewEntry}
 use Rattle.book.specs.declared.draft.Draft.{Draft}
@@ -12,7 +14,7 @@ use Rattle.book.specs.declared.faults.BookFault.TheVariants.{Full, HeaderMisplac
 use Rattle.book.specs.declared.scan.Scan.{Scan}
 use Rattle.book.specs.Drafts.{Stored, has_room}
 use Rattle.book.specs.Progress.{one_more, accepts, after, answer}
-use Rattle.book.specs.Scans.{progress, Room, Rest}
+use Rattle.book.specs.Scans.{progress, policy_code, Room, Rest}
 
 -- the four promises of an admission
 pub record Done {S : Type 0} (s t : Scan) (rs rs' : List (Rule S)) (es es' : List Entry) (content : Content S) (r : Result (Unit {0}) BookFault) : Type 0 where
@@ -65,20 +67,24 @@ module _ {X : Type 0} (limit : ℕ) (xs : List X) (x : X) (before after : ℕ) (
 room_is : {X : Type 0} (limit count : ℕ) (xs : List X) → count ≤ length xs → one_more limit (length xs) (take count xs) ≡ has_room limit count xs
 room_is limit count xs h = let l : length (take count xs) ≡ count = length-take-le count xs h in ap (λ n. ltb n limit && ltb n (length xs)) l
 
+is_some-policy_code : (p : Option Shipped) → is_some (policy_code p) ≡ is_some p
+is_some-policy_code None = refl
+is_some-policy_code (Some p) = refl
+
 begun_is : (b : Bool) (u : Unit {0}) → ◌≡◌ {A = Result (Unit {0}) BookFault} (Ok u) (cond b (Ok tt) (Err HeaderMisplaced)) → b ≡ true
 begun_is true u e = refl
 begun_is false u e = let z : ◌≡◌ {A = ℕ} 0 1 = cc in absurd (let y : ⊥ = omega arith in y)
 
 module _ {S : Type 0} (s : Scan) (d : Draft) (rs : List (Rule S)) (es : List Entry) (room : Room s rs es) where
   abbrev t : Scan
-  t = record { begun = s.begun; ended = s.ended; policy = s.policy; draft = d }
+  t = record { policy = s.policy; ended = s.ended; draft = d; headed = s.headed }
 
-  pub rule_done : (rs' : List (Rule S)) (content : Content S) (rule : Rule S) (u : Unit {0}) (r : Result (Unit {0}) BookFault) → content ≡ NewRule rule → ◌≡◌ {A = Result (Unit {0}) BookFault} (Ok u) (cond s.begun (Ok tt) (Err HeaderMisplaced)) → Stored 64 rs rule s.draft.rules d.rules rs' r → d.entries ≡ s.draft.entries → Done s t rs rs' es es content r
+  pub rule_done : (rs' : List (Rule S)) (content : Content S) (rule : Rule S) (u : Unit {0}) (r : Result (Unit {0}) BookFault) → content ≡ NewRule rule → ◌≡◌ {A = Result (Unit {0}) BookFault} (Ok u) (cond (is_some s.policy) (Ok tt) (Err HeaderMisplaced)) → Stored 64 rs rule s.draft.rules d.rules rs' r → d.entries ≡ s.draft.entries → Done s t rs rs' es es content r
   rule_done rs' content rule u r is begun st stay =
-      let b : s.begun ≡ true = begun_is s.begun u begun in
+      let b : is_some (policy_code s.policy) ≡ true = is_some-policy_code s.policy ∙ begun_is (is_some s.policy) u begun in
       let e = room_is 64 s.draft.rules rs room.rules in
       let kept : take d.entries es ≡ take s.draft.entries es = ap (λ k. take k es) stay in
-      let a : accepts (length rs) (length es) (progress s rs es) content ≡ cond (one_more 64 (length rs) (take s.draft.rules rs)) (Ok (record { begun = s.begun; ended = s.ended; policy = s.policy; rules = take s.draft.rules rs ++ rule ∷ []; entries = take s.draft.entries es })) (Err Full) =
+      let a : accepts (length rs) (length es) (progress s rs es) content ≡ cond (one_more 64 (length rs) (take s.draft.rules rs)) (Ok (record { policy = policy_code s.policy; ended = s.ended; rules = take s.draft.rules rs ++ rule ∷ []; entries = take s.draft.entries es })) (Err Full) =
       ap (accepts (length rs) (length es) (progress s rs es)) is ∙ cond-true _ _ _ b in
       ⊎_elim
       (λ fits.
@@ -87,7 +93,7 @@ module _ {S : Type 0} (s : Scan) (d : Draft) (rs : List (Rule S)) (es : List Ent
       let f = x.front in
       record {
         answered = x.granted ∙ sym (ap answer v);
-        taken = (let w : progress t rs' es ≡ record { begun = s.begun; ended = s.ended; policy = s.policy; rules = take s.draft.rules rs ++ rule ∷ []; entries = take s.draft.entries es } = cc in w) ∙ sym (ap (after (progress s rs es)) v);
+        taken = (let w : progress t rs' es ≡ record { policy = policy_code s.policy; ended = s.ended; rules = take s.draft.rules rs ++ rule ∷ []; entries = take s.draft.entries es } = cc in w) ∙ sym (ap (after (progress s rs es)) v);
         room = record { rules = let l = x.long in let n = x.next in let k = x.within in omega arith; entries = let h = room.entries in omega arith };
         rest = record { more_rules = let n = x.next in omega arith; more_entries = omega arith; rules = x.rest; entries = refl };
       })
@@ -105,12 +111,12 @@ module _ {S : Type 0} (s : Scan) (d : Draft) (rs : List (Rule S)) (es : List Ent
       })
       (cases_Bool (has_room 64 s.draft.rules rs))
 
-  pub entry_done : (es' : List Entry) (content : Content S) (entry : Entry) (u : Unit {0}) (r : Result (Unit {0}) BookFault) → content ≡ NewEntry entry → ◌≡◌ {A = Result (Unit {0}) BookFault} (Ok u) (cond s.begun (Ok tt) (Err HeaderMisplaced)) → Stored 32 es entry s.draft.entries d.entries es' r → d.rules ≡ s.draft.rules → Done s t rs rs es es' content r
+  pub entry_done : (es' : List Entry) (content : Content S) (entry : Entry) (u : Unit {0}) (r : Result (Unit {0}) BookFault) → content ≡ NewEntry entry → ◌≡◌ {A = Result (Unit {0}) BookFault} (Ok u) (cond (is_some s.policy) (Ok tt) (Err HeaderMisplaced)) → Stored 32 es entry s.draft.entries d.entries es' r → d.rules ≡ s.draft.rules → Done s t rs rs es es' content r
   entry_done es' content entry u r is begun st stay =
-      let b : s.begun ≡ true = begun_is s.begun u begun in
+      let b : is_some (policy_code s.policy) ≡ true = is_some-policy_code s.policy ∙ begun_is (is_some s.policy) u begun in
       let e = room_is 32 s.draft.entries es room.entries in
       let kept : take d.rules rs ≡ take s.draft.rules rs = ap (λ k. take k rs) stay in
-      let a : accepts (length rs) (length es) (progress s rs es) content ≡ cond (one_more 32 (length es) (take s.draft.entries es)) (Ok (record { begun = s.begun; ended = s.ended; policy = s.policy; rules = take s.draft.rules rs; entries = take s.draft.entries es ++ entry ∷ [] })) (Err Full) =
+      let a : accepts (length rs) (length es) (progress s rs es) content ≡ cond (one_more 32 (length es) (take s.draft.entries es)) (Ok (record { policy = policy_code s.policy; ended = s.ended; rules = take s.draft.rules rs; entries = take s.draft.entries es ++ entry ∷ [] })) (Err Full) =
       ap (accepts (length rs) (length es) (progress s rs es)) is ∙ cond-true _ _ _ b in
       ⊎_elim
       (λ fits.
@@ -119,7 +125,7 @@ module _ {S : Type 0} (s : Scan) (d : Draft) (rs : List (Rule S)) (es : List Ent
       let f = x.front in
       record {
         answered = x.granted ∙ sym (ap answer v);
-        taken = (let w : progress t rs es' ≡ record { begun = s.begun; ended = s.ended; policy = s.policy; rules = take s.draft.rules rs; entries = take s.draft.entries es ++ entry ∷ [] } = cc in w) ∙ sym (ap (after (progress s rs es)) v);
+        taken = (let w : progress t rs es' ≡ record { policy = policy_code s.policy; ended = s.ended; rules = take s.draft.rules rs; entries = take s.draft.entries es ++ entry ∷ [] } = cc in w) ∙ sym (ap (after (progress s rs es)) v);
         room = record { rules = let h = room.rules in omega arith; entries = let l = x.long in let n = x.next in let k = x.within in omega arith };
         rest = record { more_rules = omega arith; more_entries = let n = x.next in omega arith; rules = refl; entries = x.rest };
       })

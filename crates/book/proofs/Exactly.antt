@@ -12,6 +12,9 @@ use Rattle.book.specs.declared.faults.FileFault.{FileFault}
 use Rattle.book.specs.declared.faults.Fault.{Fault}
 use Rattle.book.specs.declared.faults.Fault.TheVariants.{Frame, Record, Rulebook}
 use Rattle.rules.specs.declared.rule.Rule.{Rule}
+use Rattle.rules.specs.declared.shipped.Shipped.{Shipped}
+use Rattle.rules.specs.declared.shipped.Shipped.TheVariants.{Permission, Denial, LocalDenial}
+use Rattle.rules.specs.Verdicts.{code}
 use Rattle.rules.specs.declared.entry.Entry.{Entry}
 use Rattle.book.specs.declared.contents.Content.{Content}
 use Rattle.book.specs.declared.opened.Opened.{Opened}
@@ -21,7 +24,7 @@ use Rattle.book.specs.Frames.{cut}
 use Rattle.kinds.specs.Readings.{Reading}
 use Rattle.book.specs.Progress.{Progress, nothing_yet, by_book, by_content, by_cut, verdict}
 use Rattle.book.specs.Files.{Spells, Says, Exact}
-use Rattle.book.proofs.Runs.{Takes, Makes, Stops, Rejects, Counts, Run}
+use Rattle.book.proofs.Runs.{Takes, Makes, Stops, Rejects, Counts, Run, same_some}
 use Rattle.book.proofs.Untold.{untold}
 use Rattle.book.proofs.FrameLaws.{cut_short, cut_long, cut_is}
 
@@ -33,10 +36,22 @@ one_sealed a b c d p q s t e f =
     subst P e (λ h. ap (λ z. record { rules = a; entries = b; few = z; short = q }) (le_prop p h)) s
     ∙ subst Q f (λ h. ap (λ z. record { rules = c; entries = b; few = s; short = z }) (le_prop q h)) t
 
+-- no two policies have one code
+one_code : (p q : Shipped) → code p ≡ code q → p ≡ q
+one_code Permission Permission e = refl
+one_code Permission Denial e = absurd (let y : ⊥ = omega (arith, e) in y)
+one_code Permission LocalDenial e = absurd (let y : ⊥ = omega (arith, e) in y)
+one_code Denial Permission e = absurd (let y : ⊥ = omega (arith, e) in y)
+one_code Denial Denial e = refl
+one_code Denial LocalDenial e = absurd (let y : ⊥ = omega (arith, e) in y)
+one_code LocalDenial Permission e = absurd (let y : ⊥ = omega (arith, e) in y)
+one_code LocalDenial Denial e = absurd (let y : ⊥ = omega (arith, e) in y)
+one_code LocalDenial LocalDenial e = refl
+
 same_opened : {S : Type 0} (b : Progress S) (o k : Opened) → Counts o b → Counts k b → o ≡ k
 same_opened b o k x y =
     let book : o.book ≡ k.book = one_sealed o.book.rules o.book.entries k.book.rules k.book.entries o.book.few o.book.short k.book.few k.book.short (x.rules_are ∙ sym y.rules_are) (x.entries_are ∙ sym y.entries_are) in
-    let policy : o.policy ≡ k.policy = x.policy_is ∙ sym y.policy_is in
+    let policy : o.policy ≡ k.policy = one_code o.policy k.policy (same_some (x.policy_is ∙ sym y.policy_is)) in
     ap (λ s. record { book = s; policy = o.policy }) book ∙ ap (λ p. record { book = k.book; policy = p }) policy
 
 abbrev whole : List (List ℕ) → List ℕ

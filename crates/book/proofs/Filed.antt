@@ -1,5 +1,5 @@
 -- What a file's reading keeps from record to record.
-use Rattle.std.proofs.Common.{◌≡◌, ℕ, ◌+◌, ◌-◌, ◌<◌, ◌≤◌, Bool, true, false, List, [], ◌∷◌, ◌++◌, length, take, drop, Ok, Err, Result, sym, refl, ap, ◌∙◌, subst, arith, length-drop, take-append-drop, take-add}
+use Rattle.std.proofs.Common.{◌≡◌, ℕ, ◌+◌, ◌-◌, ◌<◌, ◌≤◌, Bool, true, false, List, [], ◌∷◌, ◌++◌, length, take, drop, Some, None, Ok, Err, Result, sym, refl, ap, ◌∙◌, subst, arith, length-drop, take-append-drop, take-add}
 use Rattle.std.proofs.lemmas.List.{length-take-le, drop-drop, flat_map_more, take_all}
 use Rattle.std.specs.List.{flat_map}
 use Rattle.book.specs.declared.faults.BookFault.TheVariants.{Trailing}
@@ -12,7 +12,7 @@ use Rattle.book.specs.declared.scan.Scan.{Scan}
 use Rattle.book.specs.declared.opened.Opened.{Opened}
 use Rattle.kinds.specs.Readings.{Reading}
 use Rattle.book.specs.Progress.{Progress, nothing_yet, verdict, answer, after}
-use Rattle.book.specs.Scans.{progress, Room}
+use Rattle.book.specs.Scans.{progress, policy_code, Room}
 use Rattle.book.specs.Steps.{left, Stepped}
 use Rattle.book.proofs.Runs.{Makes, Takes, Run}
 use Rattle.book.proofs.Filing.{front, onward, makes_more, faulty_record}
@@ -32,10 +32,11 @@ module _ {S : Type 0} (reads : List ℕ → Reading S) (lawful : S → Bool) (by
     pub rules_long : length rs ≡ length rs₀
     pub entries_long : length es ≡ length es₀
 
-  pub at_start : (d : Reader) (s : Scan) (rs : List (Rule S)) (es : List Entry) → d.bytes.now ≡ bytes → d.place ≡ 0 → s.begun ≡ false → s.ended ≡ false → s.policy ≡ 0 → s.draft.rules ≡ 0 → s.draft.entries ≡ 0 → Standing d s rs rs es es
-  at_start d s rs es h k b e p r t =
+  pub at_start : (d : Reader) (s : Scan) (rs : List (Rule S)) (es : List Entry) → d.bytes.now ≡ bytes → d.place ≡ 0 → s.policy ≡ None → s.ended ≡ false → s.draft.rules ≡ 0 → s.draft.entries ≡ 0 → Standing d s rs rs es es
+  at_start d s rs es h k p e r t =
       let tr : take s.draft.rules rs ≡ [] = ap (λ n. take n rs) r in
       let te : take s.draft.entries es ≡ [] = ap (λ n. take n es) t in
+      let coded : policy_code s.policy ≡ None = ap policy_code p in
       let start : nothing_yet ≡ progress s rs es = cc in
       record {
         same = h;
@@ -97,13 +98,13 @@ module _ {S : Type 0} (reads : List ℕ → Reading S) (lawful : S → Bool) (by
 
   module _ (d : Reader) (s : Scan) (rs₀ rs : List (Rule S)) (es₀ es : List Entry) (st : Standing d s rs₀ rs es₀ es) where
     -- all bytes are read
-    pub accepted : (o : Opened) → o.policy ≡ s.policy → o.book.rules ≡ s.draft.rules → o.book.entries ≡ s.draft.entries → length bytes ≤ d.place → s.ended ≡ true → Run reads lawful bytes rs₀ es₀ rs es (Ok o)
+    pub accepted : (o : Opened) → s.policy ≡ Some o.policy → o.book.rules ≡ s.draft.rules → o.book.entries ≡ s.draft.entries → length bytes ≤ d.place → s.ended ≡ true → Run reads lawful bytes rs₀ es₀ rs es (Ok o)
     accepted o op or oe h e =
         let a : length (take s.draft.rules rs) ≡ s.draft.rules = length-take-le s.draft.rules rs st.room.rules in
         let b : length (take s.draft.entries es) ≡ s.draft.entries = length-take-le s.draft.entries es st.room.entries in
         record {
           book = progress s rs es;
-          came = (record { records = st.records; whole = sym (take_all d.place bytes h) ∙ st.read; makes = st.makes; ended = e }, record { policy_is = op; rules_are = or ∙ sym a; entries_are = oe ∙ sym b });
+          came = (record { records = st.records; whole = sym (take_all d.place bytes h) ∙ st.read; makes = st.makes; ended = e }, record { policy_is = sym (ap policy_code op); rules_are = or ∙ sym a; entries_are = oe ∙ sym b });
           rules = kept rs rs₀ _ s.draft.rules st.room.rules refl st.rules;
           entries = kept es es₀ _ s.draft.entries st.room.entries refl st.entries;
         }

@@ -16,7 +16,7 @@ use Rattle.sets.specs.Bytes.{little}
 use Rattle.book.specs.Frames.{Piece, piece_at, piece_end, cut, place_after}
 use Rattle.kinds.specs.Readings.{Reading}
 use Rattle.book.specs.Contents.{content}
-use Rattle.book.specs.Progress.{Progress, accepts, by_book, by_content, by_cut, verdict}
+use Rattle.book.specs.Progress.{Progress, begun, accepts, by_book, by_content, by_cut, verdict}
 use Rattle.book.specs.Files.{Spells, Says}
 use Rattle.book.proofs.Runs.{Takes, Makes, Stops}
 
@@ -119,11 +119,11 @@ module _ {S : Type 0} (reads : List ℕ → Reading S) (lawful : S → Bool) (m 
   full_unlike e = let z : ◌≡◌ {A = ℕ} 0 1 = cc in omega arith
 
   never_trailing : (b : Progress S) (i : Content S) → accepts m n b i ≡ Err Trailing → ⊥
-  never_trailing b Filler = unlike b.begun _ _ (ok_unlike _) head_unlike
-  never_trailing b (Heading h) = unlike b.begun _ _ head_unlike (unlike _ _ _ (ok_unlike _) edition_unlike)
-  never_trailing b (NewRule r) = unlike b.begun _ _ (unlike _ _ _ (ok_unlike _) full_unlike) head_unlike
-  never_trailing b (NewEntry e) = unlike b.begun _ _ (unlike _ _ _ (ok_unlike _) full_unlike) head_unlike
-  never_trailing b End = unlike b.begun _ _ (ok_unlike _) head_unlike
+  never_trailing b Filler = unlike (begun b) _ _ (ok_unlike _) head_unlike
+  never_trailing b (Heading h) = unlike (begun b) _ _ head_unlike (unlike _ _ _ (ok_unlike _) edition_unlike)
+  never_trailing b (NewRule r) = unlike (begun b) _ _ (unlike _ _ _ (ok_unlike _) full_unlike) head_unlike
+  never_trailing b (NewEntry e) = unlike (begun b) _ _ (unlike _ _ _ (ok_unlike _) full_unlike) head_unlike
+  never_trailing b End = unlike (begun b) _ _ (ok_unlike _) head_unlike
 
   -- where a fault lies, and why
   abbrev pub Why : Progress S → ℕ → List ℕ → FileFault → Type 0

@@ -9,7 +9,7 @@ use Rattle.book.specs.declared.contents.Header.{Header}
 use Rattle.book.specs.declared.faults.BookFault.{BookFault}
 use Rattle.book.specs.declared.faults.BookFault.TheVariants.{HeaderMisplaced, HeaderUnknown, Full}
 use Rattle.book.specs.Files.{good_header}
-use Rattle.book.specs.Progress.{Progress, nothing_yet, one_more, accepts}
+use Rattle.book.specs.Progress.{Progress, begun, nothing_yet, one_more, accepts}
 use Rattle.book.proofs.Telling.{only_err}
 
 unlike_full : Full ≡ HeaderMisplaced → ⊥
@@ -77,42 +77,42 @@ module _ {S : Type 0} (m n : ℕ) where
   first_full End e = misplaced_full (same_err _ _ e)
 
   -- after it
-  module _ (c : Progress S) (begun : c.begun ≡ true) where
+  module _ (c : Progress S) (came : begun c ≡ true) where
     rule_answer : (r : Rule S) (f : BookFault) → accepts m n c (NewRule r) ≡ Err f → (one_more 64 m c.rules ≡ false) × (Full ≡ f)
-    rule_answer r f e = only_err (one_more 64 m c.rules) _ Full f (sym (cond-true c.begun _ _ begun) ∙ e)
+    rule_answer r f e = only_err (one_more 64 m c.rules) _ Full f (sym (cond-true (begun c) _ _ came) ∙ e)
 
     entry_answer : (x : Entry) (f : BookFault) → accepts m n c (NewEntry x) ≡ Err f → (one_more 32 n c.entries ≡ false) × (Full ≡ f)
-    entry_answer x f e = only_err (one_more 32 n c.entries) _ Full f (sym (cond-true c.begun _ _ begun) ∙ e)
+    entry_answer x f e = only_err (one_more 32 n c.entries) _ Full f (sym (cond-true (begun c) _ _ came) ∙ e)
 
     pub later_misplaced : (x : Content S) → accepts m n c x ≡ Err HeaderMisplaced → (h : Header) × (x ≡ Heading h)
-    later_misplaced Filler e = absurd (both_ways c.begun (only_err c.begun _ HeaderMisplaced HeaderMisplaced e).0 begun)
+    later_misplaced Filler e = absurd (both_ways (begun c) (only_err (begun c) _ HeaderMisplaced HeaderMisplaced e).0 came)
     later_misplaced (Heading g) e = (g, refl)
     later_misplaced (NewRule r) e = absurd (unlike_full (rule_answer r HeaderMisplaced e).1)
     later_misplaced (NewEntry x) e = absurd (unlike_full (entry_answer x HeaderMisplaced e).1)
-    later_misplaced End e = absurd (both_ways c.begun (only_err c.begun _ HeaderMisplaced HeaderMisplaced e).0 begun)
+    later_misplaced End e = absurd (both_ways (begun c) (only_err (begun c) _ HeaderMisplaced HeaderMisplaced e).0 came)
 
     pub misplaced_later : (x : Content S) → (h : Header) × (x ≡ Heading h) → accepts m n c x ≡ Err HeaderMisplaced
-    misplaced_later x w = ap (accepts m n c) w.1 ∙ cond-true c.begun _ _ begun
+    misplaced_later x w = ap (accepts m n c) w.1 ∙ cond-true (begun c) _ _ came
 
     pub later_unknown : (x : Content S) → accepts m n c x ≡ Err HeaderUnknown → ⊥
-    later_unknown Filler e = both_ways c.begun (only_err c.begun _ HeaderMisplaced HeaderUnknown e).0 begun
-    later_unknown (Heading g) e = misplaced_unknown (same_err _ _ (sym (cond-true c.begun _ _ begun) ∙ e))
+    later_unknown Filler e = both_ways (begun c) (only_err (begun c) _ HeaderMisplaced HeaderUnknown e).0 came
+    later_unknown (Heading g) e = misplaced_unknown (same_err _ _ (sym (cond-true (begun c) _ _ came) ∙ e))
     later_unknown (NewRule r) e = full_unknown (rule_answer r HeaderUnknown e).1
     later_unknown (NewEntry x) e = full_unknown (entry_answer x HeaderUnknown e).1
-    later_unknown End e = both_ways c.begun (only_err c.begun _ HeaderMisplaced HeaderUnknown e).0 begun
+    later_unknown End e = both_ways (begun c) (only_err (begun c) _ HeaderMisplaced HeaderUnknown e).0 came
 
     abbrev pub Overfull : Content S → Type 0
     Overfull x = ((r : Rule S) × (x ≡ NewRule r) × NoRoom 64 m c.rules) ⊎ ((e : Entry) × (x ≡ NewEntry e) × NoRoom 32 n c.entries)
 
     pub later_full : (x : Content S) → accepts m n c x ≡ Err Full → Overfull x
-    later_full Filler e = absurd (both_ways c.begun (only_err c.begun _ HeaderMisplaced Full e).0 begun)
-    later_full (Heading g) e = absurd (misplaced_full (same_err _ _ (sym (cond-true c.begun _ _ begun) ∙ e)))
+    later_full Filler e = absurd (both_ways (begun c) (only_err (begun c) _ HeaderMisplaced Full e).0 came)
+    later_full (Heading g) e = absurd (misplaced_full (same_err _ _ (sym (cond-true (begun c) _ _ came) ∙ e)))
     later_full (NewRule r) e = inl (r, refl, no_room 64 m c.rules (rule_answer r Full e).0)
     later_full (NewEntry x) e = inr (x, refl, no_room 32 n c.entries (entry_answer x Full e).0)
-    later_full End e = absurd (both_ways c.begun (only_err c.begun _ HeaderMisplaced Full e).0 begun)
+    later_full End e = absurd (both_ways (begun c) (only_err (begun c) _ HeaderMisplaced Full e).0 came)
 
     pub full_later : (x : Content S) → Overfull x → accepts m n c x ≡ Err Full
     full_later x w = ⊎_elim
-        (λ a. ap (accepts m n c) a.1 ∙ cond-true c.begun _ _ begun ∙ cond-false (one_more 64 m c.rules) _ _ (room_none 64 m c.rules a.2))
-        (λ a. ap (accepts m n c) a.1 ∙ cond-true c.begun _ _ begun ∙ cond-false (one_more 32 n c.entries) _ _ (room_none 32 n c.entries a.2))
+        (λ a. ap (accepts m n c) a.1 ∙ cond-true (begun c) _ _ came ∙ cond-false (one_more 64 m c.rules) _ _ (room_none 64 m c.rules a.2))
+        (λ a. ap (accepts m n c) a.1 ∙ cond-true (begun c) _ _ came ∙ cond-false (one_more 32 n c.entries) _ _ (room_none 32 n c.entries a.2))
         w

@@ -1,10 +1,11 @@
 -- A file as the reader goes through it: records that make progress, and where it stops.
-use Rattle.std.proofs.Common.{◌≡◌, ℕ, ◌+◌, ◌<◌, ◌≤◌, Bool, true, false, List, [], ◌∷◌, ◌++◌, length, drop, Ok, Err, Result}
+use Rattle.std.proofs.Common.{◌≡◌, ℕ, ◌+◌, ◌<◌, ◌≤◌, Bool, true, false, List, [], ◌∷◌, ◌++◌, length, drop, Some, Ok, Err, Result}
 use Rattle.std.specs.List.{flat_map}
 use Rattle.sets.specs.Bytes.{little}
 use Rattle.kinds.specs.Readings.{Reading}
 use Rattle.rules.specs.declared.entry.Entry.{Entry}
 use Rattle.rules.specs.declared.rule.Rule.{Rule}
+use Rattle.rules.specs.Verdicts.{code}
 use Rattle.book.specs.declared.contents.Content.{Content}
 use Rattle.book.specs.declared.faults.BookFault.{BookFault}
 use Rattle.book.specs.declared.faults.RecordFault.{RecordFault}
@@ -72,9 +73,12 @@ module _ {S : Type 0} (reads : List ℕ → Reading S) (lawful : S → Bool) (m 
     pub place : f.place ≡ length (flat_map (λ xs. xs) records)
     pub faulty : Stops b rest f.fault
 
+pub same_some : {x y : ℕ} → Some x ≡ Some y → x ≡ y
+same_some e = cc
+
 -- the answer counts what the progress b holds
 pub record Counts {S : Type 0} (o : Opened) (b : Progress S) : Type 0 where
-  pub policy_is : o.policy ≡ b.policy
+  pub policy_is : Some (code o.policy) ≡ b.policy
   pub rules_are : o.book.rules ≡ length b.rules
   pub entries_are : o.book.entries ≡ length b.entries
 

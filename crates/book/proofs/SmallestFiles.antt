@@ -3,6 +3,7 @@ use Rattle.std.proofs.Common.{ℕ, Bool, List, [], ◌∷◌, ◌++◌, length, 
 use Rattle.kinds.specs.Readings.{Reading}
 use Rattle.rules.specs.declared.entry.Entry.{Entry}
 use Rattle.rules.specs.declared.rule.Rule.{Rule}
+use Rattle.rules.specs.declared.shipped.Shipped.TheVariants.{Denial}
 use Rattle.book.specs.declared.contents.Content.TheVariants.{Heading, End}
 use Rattle.book.specs.declared.contents.Header.{Header}
 use Rattle.book.specs.declared.faults.Fault.TheVariants.{Frame}
@@ -23,7 +24,7 @@ end = 0 ∷ 0 ∷ 4 ∷ 0 ∷ []
 
 -- a book with nothing in it, under the policy with code 2
 abbrev pub nothing_in_it : Opened
-nothing_in_it = record { book = record { rules = 0; entries = 0; few = lit≤ tt; short = lit≤ tt }; policy = 2 }
+nothing_in_it = record { book = record { rules = 0; entries = 0; few = lit≤ tt; short = lit≤ tt }; policy = Denial }
 
 -- no whole record starts at the place
 abbrev pub no_record_at : ℕ → FileFault

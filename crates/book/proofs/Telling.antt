@@ -1,5 +1,5 @@
 -- From the reader's progress to what the file says.
-use Rattle.std.proofs.Common.{◌≡◌, ℕ, ◌+◌, ◌≤◌, Bool, true, false, cond, ltb, ◌⊎◌, List, [], ◌∷◌, ◌++◌, length, Ok, Err, Result, sym, refl, ap, ◌∙◌, subst, inl, inr, ⊎_elim, arith, length-append}
+use Rattle.std.proofs.Common.{◌≡◌, ℕ, ◌+◌, ◌≤◌, Bool, true, false, cond, ltb, ◌⊎◌, List, [], ◌∷◌, ◌++◌, length, Some, Ok, Err, Result, sym, refl, ap, ◌∙◌, subst, inl, inr, ⊎_elim, arith, length-append}
 use Rattle.std.proofs.lemmas.List.{append_assoc, append-nil}
 use Rattle.std.proofs.lemmas.Bool.{both_ways, cond-true, and_parts, ltb-true}
 use Rattle.std.specs.List.{AllByRecursion}
@@ -9,7 +9,7 @@ use Rattle.book.specs.declared.contents.Content.TheVariants.{Filler, Heading, Ne
 use Rattle.book.specs.declared.contents.Header.{Header}
 use Rattle.book.specs.declared.faults.BookFault.TheVariants.{HeaderMisplaced, HeaderUnknown, Full}
 use Rattle.book.specs.Files.{Says, EachSays, good_header, plain, rules_of, entries_of}
-use Rattle.book.specs.Progress.{Progress, nothing_yet, one_more, accepts}
+use Rattle.book.specs.Progress.{Progress, begun, nothing_yet, one_more, accepts}
 use Rattle.book.proofs.Runs.{Makes}
 
 -- which answers of an acceptance cannot be
@@ -59,7 +59,7 @@ module _ {S : Type 0} (reads : List ℕ → Reading S) (lawful : S → Bool) (m 
   pub record Went (b c : Progress S) (xss : List (List ℕ)) : Type 0 where
     pub inner : List (Content S)
     pub all_plain : AllByRecursion (λ x. plain x ≡ true) inner
-    pub begun_is : c.begun ≡ true
+    pub begun_is : begun c ≡ true
     pub policy_is : c.policy ≡ b.policy
     pub rules_are : c.rules ≡ b.rules ++ rules_of inner
     pub entries_are : c.entries ≡ b.entries ++ entries_of inner
@@ -85,11 +85,11 @@ module _ {S : Type 0} (reads : List ℕ → Reading S) (lawful : S → Bool) (m 
   after_end d c [] e mk = (refl, mk)
   after_end d c (xs ∷ xss) e mk = absurd (both_ways d.ended mk.1.going e)
 
-  pub went : (xss : List (List ℕ)) (b c : Progress S) → b.begun ≡ true → b.ended ≡ false → Fits b → Makes reads lawful m n b xss c → Went b c xss
+  pub went : (xss : List (List ℕ)) (b c : Progress S) → begun b ≡ true → b.ended ≡ false → Fits b → Makes reads lawful m n b xss c → Went b c xss
   went [] b c bg en ft mk = record {
     inner = [];
     all_plain = tt;
-    begun_is = ap (λ (z : Progress S). z.begun) (sym mk) ∙ bg;
+    begun_is = ap (λ (z : Progress S). begun z) (sym mk) ∙ bg;
     policy_is = ap (λ (z : Progress S). z.policy) (sym mk);
     rules_are = ap (λ (z : Progress S). z.rules) (sym mk) ∙ sym (append-nil b.rules);
     entries_are = ap (λ (z : Progress S). z.entries) (sym mk) ∙ sym (append-nil b.entries);
@@ -98,15 +98,15 @@ module _ {S : Type 0} (reads : List ℕ → Reading S) (lawful : S → Bool) (m 
   }
   went (xs ∷ xss) b c bg en ft mk = by (λ d. went xss d c) mk.1.item mk.1.says mk.1.taken
     where
-      by : ((d : Progress S) → d.begun ≡ true → d.ended ≡ false → Fits d → Makes reads lawful m n d xss c → Went d c xss) → (x : Content S) → Says reads lawful m n xs (Ok x) → accepts m n b x ≡ Ok mk.0 → Went b c (xs ∷ xss)
+      by : ((d : Progress S) → begun d ≡ true → d.ended ≡ false → Fits d → Makes reads lawful m n d xss c → Went d c xss) → (x : Content S) → Says reads lawful m n xs (Ok x) → accepts m n b x ≡ Ok mk.0 → Went b c (xs ∷ xss)
       by rec Filler says tk =
-          let e : b ≡ mk.0 = (only_ok b.begun b mk.0 HeaderMisplaced tk).1 in
+          let e : b ≡ mk.0 = (only_ok (begun b) b mk.0 HeaderMisplaced tk).1 in
           before b b c xs xss Filler refl says refl (λ cs. refl) (λ cs. refl)
           (rec b bg en ft (subst (λ (z : Progress S). Makes reads lawful m n z xss c) (sym e) mk.2))
-      by rec (Heading h) says tk = absurd (err_ok mk.0 HeaderMisplaced (sym (cond-true b.begun _ _ bg) ∙ tk))
+      by rec (Heading h) says tk = absurd (err_ok mk.0 HeaderMisplaced (sym (cond-true (begun b) _ _ bg) ∙ tk))
       by rec (NewRule r) says tk =
-          let more : Progress S = record { begun = b.begun; ended = b.ended; policy = b.policy; rules = b.rules ++ r ∷ []; entries = b.entries } in
-          let p = only_ok (one_more 64 m b.rules) more mk.0 Full (sym (cond-true b.begun _ _ bg) ∙ tk) in
+          let more : Progress S = record { policy = b.policy; ended = b.ended; rules = b.rules ++ r ∷ []; entries = b.entries } in
+          let p = only_ok (one_more 64 m b.rules) more mk.0 Full (sym (cond-true (begun b) _ _ bg) ∙ tk) in
           let q = and_parts (ltb (length b.rules) 64) (ltb (length b.rules) m) p.0 in
           let lt = ltb-true (length b.rules) 64 q.0 in
           let lm = ltb-true (length b.rules) m q.1 in
@@ -115,8 +115,8 @@ module _ {S : Type 0} (reads : List ℕ → Reading S) (lawful : S → Bool) (m 
           (rec more bg en (record { rules_few = omega arith; rules_fit = omega arith; entries_few = ft.entries_few; entries_fit = ft.entries_fit })
           (subst (λ (z : Progress S). Makes reads lawful m n z xss c) (sym p.1) mk.2))
       by rec (NewEntry x) says tk =
-          let more : Progress S = record { begun = b.begun; ended = b.ended; policy = b.policy; rules = b.rules; entries = b.entries ++ x ∷ [] } in
-          let p = only_ok (one_more 32 n b.entries) more mk.0 Full (sym (cond-true b.begun _ _ bg) ∙ tk) in
+          let more : Progress S = record { policy = b.policy; ended = b.ended; rules = b.rules; entries = b.entries ++ x ∷ [] } in
+          let p = only_ok (one_more 32 n b.entries) more mk.0 Full (sym (cond-true (begun b) _ _ bg) ∙ tk) in
           let q = and_parts (ltb (length b.entries) 32) (ltb (length b.entries) n) p.0 in
           let lt = ltb-true (length b.entries) 32 q.0 in
           let ln = ltb-true (length b.entries) n q.1 in
@@ -125,14 +125,14 @@ module _ {S : Type 0} (reads : List ℕ → Reading S) (lawful : S → Bool) (m 
           (rec more bg en (record { rules_few = ft.rules_few; rules_fit = ft.rules_fit; entries_few = omega arith; entries_fit = omega arith })
           (subst (λ (z : Progress S). Makes reads lawful m n z xss c) (sym p.1) mk.2))
       by rec End says tk =
-          let done : Progress S = record { begun = b.begun; ended = true; policy = b.policy; rules = b.rules; entries = b.entries } in
-          let e : done ≡ mk.0 = (only_ok b.begun done mk.0 HeaderMisplaced tk).1 in
+          let done : Progress S = record { policy = b.policy; ended = true; rules = b.rules; entries = b.entries } in
+          let e : done ≡ mk.0 = (only_ok (begun b) done mk.0 HeaderMisplaced tk).1 in
           let a = after_end done c xss refl (subst (λ (z : Progress S). Makes reads lawful m n z xss c) (sym e) mk.2) in
           let dc : done ≡ c = a.1 in
           record {
             inner = [];
             all_plain = tt;
-            begun_is = ap (λ (z : Progress S). z.begun) (sym dc) ∙ bg;
+            begun_is = ap (λ (z : Progress S). begun z) (sym dc) ∙ bg;
             policy_is = ap (λ (z : Progress S). z.policy) (sym dc);
             rules_are = ap (λ (z : Progress S). z.rules) (sym dc) ∙ sym (append-nil b.rules);
             entries_are = ap (λ (z : Progress S). z.entries) (sym dc) ∙ sym (append-nil b.entries);
@@ -141,7 +141,7 @@ module _ {S : Type 0} (reads : List ℕ → Reading S) (lawful : S → Bool) (m 
           }
 
   abbrev pub headed : Header → Progress S
-  headed h = record { begun = true; ended = false; policy = h.policy; rules = []; entries = [] }
+  headed h = record { policy = Some h.policy; ended = false; rules = []; entries = [] }
 
   -- what records from the start of a file have led to
   pub record Started (xss : List (List ℕ)) (c : Progress S) : Type 0 where

@@ -1,5 +1,5 @@
 -- A run of the reader is an outcome of the file.
-use Rattle.std.proofs.Common.{◌≡◌, ℕ, ◌≤◌, Bool, true, false, ◌⊎◌, List, [], ◌∷◌, ◌++◌, length, drop, Ok, Err, Result, sym, refl, ap, ◌∙◌, subst, inl, inr, ⊎_elim, arith}
+use Rattle.std.proofs.Common.{◌≡◌, ℕ, ◌≤◌, Bool, true, false, ◌⊎◌, List, [], ◌∷◌, ◌++◌, length, drop, Some, Ok, Err, Result, sym, refl, ap, ◌∙◌, subst, inl, inr, ⊎_elim, arith}
 use Rattle.std.proofs.lemmas.Bool.{both_ways}
 use Rattle.kinds.specs.Readings.{Reading}
 use Rattle.rules.specs.declared.entry.Entry.{Entry}
@@ -15,8 +15,8 @@ use Rattle.book.specs.declared.faults.Fault.TheVariants.{Frame, Record, Rulebook
 use Rattle.book.specs.declared.faults.FileFault.{FileFault}
 use Rattle.book.specs.declared.opened.Opened.{Opened}
 use Rattle.book.specs.Files.{EachSays, Body, BeginsWith, Saying, Faulty, Outcome, rules_of, entries_of}
-use Rattle.book.specs.Progress.{Progress, nothing_yet, accepts}
-use Rattle.book.proofs.Runs.{Makes, Rejects, Stops, Run}
+use Rattle.book.specs.Progress.{Progress, begun, nothing_yet, accepts}
+use Rattle.book.proofs.Runs.{Makes, Rejects, Stops, Run, same_some}
 use Rattle.book.proofs.Telling.{Started, started, rules_end, entries_end}
 use Rattle.book.proofs.Refusing.{first_misplaced, first_unknown, first_full, later_misplaced, later_unknown, later_full}
 
@@ -37,7 +37,7 @@ module _ {S : Type 0} (reads : List ℕ → Reading S) (lawful : S → Bool) (m 
 
   module _ (h : Header) (inner : List (Content S)) (c : Progress S) (body : Body reads lawful m n h inner) where
     -- the header was read, and the end was not
-    going : c.begun ≡ true → c.ended ≡ false → c.rules ≡ rules_of inner → c.entries ≡ entries_of inner → (bs : List ℕ) (f : Fault) → Stops reads lawful m n c bs f → Faulty reads lawful m n (Heading h ∷ inner) bs f
+    going : begun c ≡ true → c.ended ≡ false → c.rules ≡ rules_of inner → c.entries ≡ entries_of inner → (bs : List ℕ) (f : Fault) → Stops reads lawful m n c bs f → Faulty reads lawful m n (Heading h ∷ inner) bs f
     going bg en rs es bs (Frame RecordCut) k = (body, k.1)
     going bg en rs es bs (Frame BodyCut) k = (body, k.1.0, k.1.1)
     going bg en rs es bs (Record e) k = (body, record { xs = k.1.xs; more = k.1.more; front = k.1.front; first = k.1.says })
@@ -85,7 +85,7 @@ module _ {S : Type 0} (reads : List ℕ → Reading S) (lawful : S → Bool) (m 
     pub rules_are : c.rules ≡ rules_of said
     pub entries_are : c.entries ≡ entries_of said
     pub stops : (bs : List ℕ) (f : Fault) → Stops reads lawful m n c bs f → Faulty reads lawful m n said bs f
-    pub ends : c.ended ≡ true → (h : Header) × (inner : List (Content S)) × (said ≡ Heading h ∷ (inner ++ End ∷ [])) × (Body reads lawful m n h inner) × (c.policy ≡ h.policy)
+    pub ends : c.ended ≡ true → (h : Header) × (inner : List (Content S)) × (said ≡ Heading h ∷ (inner ++ End ∷ [])) × (Body reads lawful m n h inner) × (c.policy ≡ Some h.policy)
 
   pub spoken : (xss : List (List ℕ)) (c : Progress S) → Makes reads lawful m n nothing_yet xss c → Spoken xss c
   spoken xss c mk = ⊎_elim
@@ -136,7 +136,7 @@ module _ {S : Type 0} (reads : List ℕ → Reading S) (lawful : S → Bool) (by
           en.0,
           en.1,
           record { records = mu.records; in_a_row = mu.whole; say = sp.say; whole = record { contents = en.2; body = en.3 } },
-          record { policy_is = cn.policy_is ∙ en.4; rules_are = cn.rules_are ∙ ap length sp.rules_are; entries_are = cn.entries_are ∙ ap length sp.entries_are },
+          record { policy_is = same_some (cn.policy_is ∙ en.4); rules_are = cn.rules_are ∙ ap length sp.rules_are; entries_are = cn.entries_are ∙ ap length sp.entries_are },
         );
         rules_after = front_kept rs run.book.rules rs' (rules_of sp.said) sp.rules_are run.rules;
         entries_after = front_kept es run.book.entries es' (entries_of sp.said) sp.entries_are run.entries;

@@ -1,5 +1,5 @@
 -- An outcome of the file is a run of the reader.
-use Rattle.std.proofs.Common.{◌≡◌, ℕ, ◌+◌, ◌≤◌, Bool, true, false, ltb, List, [], ◌∷◌, ◌++◌, length, drop, Ok, Err, Result, sym, refl, ap, ◌∙◌, subst, arith, length-append}
+use Rattle.std.proofs.Common.{◌≡◌, ℕ, ◌+◌, ◌≤◌, Bool, true, false, ltb, List, [], ◌∷◌, ◌++◌, length, drop, Some, Ok, Err, Result, sym, refl, ap, ◌∙◌, subst, arith, length-append}
 use Rattle.std.proofs.lemmas.List.{append_assoc, append-nil}
 use Rattle.std.proofs.lemmas.Bool.{both_ways, cond-true, and_from, lt-ltb}
 use Rattle.std.specs.List.{AllByRecursion}
@@ -19,7 +19,7 @@ use Rattle.book.specs.declared.faults.Fault.TheVariants.{Frame, Record, Rulebook
 use Rattle.book.specs.declared.faults.FileFault.{FileFault}
 use Rattle.book.specs.declared.opened.Opened.{Opened}
 use Rattle.book.specs.Files.{Says, EachSays, Body, Whole, Opening, BeginsWith, Saying, Faulty, Outcome, plain, rules_of, entries_of}
-use Rattle.book.specs.Progress.{Progress, nothing_yet, one_more, accepts}
+use Rattle.book.specs.Progress.{Progress, begun, nothing_yet, one_more, accepts}
 use Rattle.book.proofs.Runs.{Makes, Rejects, Stops, Run}
 use Rattle.book.proofs.Filing.{makes_more}
 use Rattle.book.proofs.Telling.{headed, rules_end, entries_end}
@@ -28,7 +28,7 @@ use Rattle.book.proofs.Refusing.{misplaced_first, unknown_first, misplaced_later
 module _ {S : Type 0} (reads : List ℕ → Reading S) (lawful : S → Bool) (m n : ℕ) where
   -- the progress b after plain contents
   abbrev grown : Progress S → List (Content S) → Progress S
-  grown b cs = record { begun = b.begun; ended = b.ended; policy = b.policy; rules = b.rules ++ rules_of cs; entries = b.entries ++ entries_of cs }
+  grown b cs = record { policy = b.policy; ended = b.ended; rules = b.rules ++ rules_of cs; entries = b.entries ++ entries_of cs }
 
   record Space (b : Progress S) (cs : List (Content S)) : Type 0 where
     rules_few : length b.rules + length (rules_of cs) ≤ 64
@@ -36,45 +36,45 @@ module _ {S : Type 0} (reads : List ℕ → Reading S) (lawful : S → Bool) (m 
     entries_few : length b.entries + length (entries_of cs) ≤ 32
     entries_fit : length b.entries + length (entries_of cs) ≤ n
 
-  plain_run : (cs : List (Content S)) (xss : List (List ℕ)) (b : Progress S) → b.begun ≡ true → b.ended ≡ false → AllByRecursion (λ x. plain x ≡ true) cs → EachSays reads lawful m n xss cs → Space b cs → Makes reads lawful m n b xss (grown b cs)
+  plain_run : (cs : List (Content S)) (xss : List (List ℕ)) (b : Progress S) → begun b ≡ true → b.ended ≡ false → AllByRecursion (λ x. plain x ≡ true) cs → EachSays reads lawful m n xss cs → Space b cs → Makes reads lawful m n b xss (grown b cs)
   plain_run [] [] b bg en pl say sp =
-      ap (λ zs. record { begun = b.begun; ended = b.ended; policy = b.policy; rules = zs; entries = b.entries }) (sym (append-nil b.rules))
-      ∙ ap (λ zs. record { begun = b.begun; ended = b.ended; policy = b.policy; rules = b.rules ++ []; entries = zs }) (sym (append-nil b.entries))
+      ap (λ zs. record { policy = b.policy; ended = b.ended; rules = zs; entries = b.entries }) (sym (append-nil b.rules))
+      ∙ ap (λ zs. record { policy = b.policy; ended = b.ended; rules = b.rules ++ []; entries = zs }) (sym (append-nil b.entries))
   plain_run [] (xs ∷ xss) b bg en pl say sp = absurd say
   plain_run (x ∷ cs) [] b bg en pl say sp = absurd say
   plain_run (Filler ∷ cs) (xs ∷ xss) b bg en pl say sp = (
     b,
-    record { going = en; item = Filler; says = say.0; taken = cond-true b.begun _ _ bg },
+    record { going = en; item = Filler; says = say.0; taken = cond-true (begun b) _ _ bg },
     plain_run cs xss b bg en pl.1 say.1 (record { rules_few = sp.rules_few; rules_fit = sp.rules_fit; entries_few = sp.entries_few; entries_fit = sp.entries_fit }),
   )
   plain_run (Heading h ∷ cs) (xs ∷ xss) b bg en pl say sp = absurd (both_ways false refl pl.0)
   plain_run (NewRule r ∷ cs) (xs ∷ xss) b bg en pl say sp =
-      let more : Progress S = record { begun = b.begun; ended = b.ended; policy = b.policy; rules = b.rules ++ r ∷ []; entries = b.entries } in
+      let more : Progress S = record { policy = b.policy; ended = b.ended; rules = b.rules ++ r ∷ []; entries = b.entries } in
       let l : length (b.rules ++ r ∷ []) ≡ length b.rules + 1 = length-append b.rules (r ∷ []) in
       let few = sp.rules_few in
       let fit = sp.rules_fit in
       let room = and_from (ltb (length b.rules) 64) (ltb (length b.rules) m) (lt-ltb (length b.rules) 64 (omega arith)) (lt-ltb (length b.rules) m (omega arith)) in (
         more,
-        record { going = en; item = NewRule r; says = say.0; taken = cond-true b.begun _ _ bg ∙ cond-true (one_more 64 m b.rules) _ _ room },
-        subst (λ zs. Makes reads lawful m n more xss (record { begun = b.begun; ended = b.ended; policy = b.policy; rules = zs; entries = b.entries ++ entries_of cs })) (append_assoc b.rules (r ∷ []) (rules_of cs))
+        record { going = en; item = NewRule r; says = say.0; taken = cond-true (begun b) _ _ bg ∙ cond-true (one_more 64 m b.rules) _ _ room },
+        subst (λ zs. Makes reads lawful m n more xss (record { policy = b.policy; ended = b.ended; rules = zs; entries = b.entries ++ entries_of cs })) (append_assoc b.rules (r ∷ []) (rules_of cs))
             (plain_run cs xss more bg en pl.1 say.1 (record { rules_few = omega arith; rules_fit = omega arith; entries_few = sp.entries_few; entries_fit = sp.entries_fit })),
       )
   plain_run (NewEntry e ∷ cs) (xs ∷ xss) b bg en pl say sp =
-      let more : Progress S = record { begun = b.begun; ended = b.ended; policy = b.policy; rules = b.rules; entries = b.entries ++ e ∷ [] } in
+      let more : Progress S = record { policy = b.policy; ended = b.ended; rules = b.rules; entries = b.entries ++ e ∷ [] } in
       let l : length (b.entries ++ e ∷ []) ≡ length b.entries + 1 = length-append b.entries (e ∷ []) in
       let few = sp.entries_few in
       let fit = sp.entries_fit in
       let room = and_from (ltb (length b.entries) 32) (ltb (length b.entries) n) (lt-ltb (length b.entries) 32 (omega arith)) (lt-ltb (length b.entries) n (omega arith)) in (
         more,
-        record { going = en; item = NewEntry e; says = say.0; taken = cond-true b.begun _ _ bg ∙ cond-true (one_more 32 n b.entries) _ _ room },
-        subst (λ zs. Makes reads lawful m n more xss (record { begun = b.begun; ended = b.ended; policy = b.policy; rules = b.rules ++ rules_of cs; entries = zs })) (append_assoc b.entries (e ∷ []) (entries_of cs))
+        record { going = en; item = NewEntry e; says = say.0; taken = cond-true (begun b) _ _ bg ∙ cond-true (one_more 32 n b.entries) _ _ room },
+        subst (λ zs. Makes reads lawful m n more xss (record { policy = b.policy; ended = b.ended; rules = b.rules ++ rules_of cs; entries = zs })) (append_assoc b.entries (e ∷ []) (entries_of cs))
             (plain_run cs xss more bg en pl.1 say.1 (record { rules_few = sp.rules_few; rules_fit = sp.rules_fit; entries_few = omega arith; entries_fit = omega arith })),
       )
   plain_run (End ∷ cs) (xs ∷ xss) b bg en pl say sp = absurd (both_ways false refl pl.0)
 
   -- the progress after a header and plain contents
   abbrev open' : Header → List (Content S) → Progress S
-  open' h cs = record { begun = true; ended = false; policy = h.policy; rules = rules_of cs; entries = entries_of cs }
+  open' h cs = record { policy = Some h.policy; ended = false; rules = rules_of cs; entries = entries_of cs }
 
   headed_run : (h : Header) (cs : List (Content S)) (xs : List ℕ) (xss : List (List ℕ)) → Body reads lawful m n h cs → Says reads lawful m n xs (Ok (Heading h)) → EachSays reads lawful m n xss cs → Makes reads lawful m n nothing_yet (xs ∷ xss) (open' h cs)
   headed_run h cs xs xss body says say =
@@ -105,7 +105,7 @@ module _ {S : Type 0} (reads : List ℕ → Reading S) (lawful : S → Bool) (m 
       record { front = xs ∷ s.front; last = s.last; whole = ap (λ zss. xs ∷ zss) s.whole; say = (say.0, s.say); end = s.end }
 
   abbrev shut : Header → List (Content S) → Progress S
-  shut h cs = record { begun = true; ended = true; policy = h.policy; rules = rules_of cs; entries = entries_of cs }
+  shut h cs = record { policy = Some h.policy; ended = true; rules = rules_of cs; entries = entries_of cs }
 
   whole_run : (h : Header) (cs all : List (Content S)) (xss : List (List ℕ)) → Whole reads lawful m n h cs all → EachSays reads lawful m n xss all → Makes reads lawful m n nothing_yet xss (shut h cs)
   whole_run h cs all xss w say = by xss (subst (λ zs. EachSays reads lawful m n xss zs) w.contents say)
@@ -222,7 +222,7 @@ module _ {S : Type 0} (reads : List ℕ → Reading S) (lawful : S → Bool) (by
         book = shut reads lawful (length rs) (length es) a.0 a.1;
         came = (
           record { records = ac.records; whole = ac.in_a_row; makes = whole_run reads lawful (length rs) (length es) a.0 a.1 out.said ac.records w ac.say; ended = refl },
-          record { policy_is = op.policy_is; rules_are = op.rules_are ∙ ap length ra; entries_are = op.entries_are ∙ ap length ea },
+          record { policy_is = ap Some op.policy_is; rules_are = op.rules_are ∙ ap length ra; entries_are = op.entries_are ∙ ap length ea },
         );
         rules = front_kept rs (rules_of out.said) rs' (rules_of a.1) ra out.rules_after;
         entries = front_kept es (entries_of out.said) es' (entries_of a.1) ea out.entries_after;

@@ -1,5 +1,6 @@
 -- CONTENTS: what one record says, by its kind and body, or what is wrong with it.
 --     content reads lawful kind body    by the kind: 0 filler, 1 header, 2 rule, 3 entry, 4 end
+--     kind_number k                     the number of the kind k in a file
 --     filler_content bs                 any number of bytes, all zero
 --     header_content bs                 edition, policy code, 2 bytes each
 --     rule_content reads lawful bs      granted set, denied set, 8 bytes each, then exactly a test
@@ -21,9 +22,18 @@ use Rattle.rules.specs.declared.rule.Rule.{Rule}
 use Rattle.book.specs.declared.contents.Content.{Content}
 use Rattle.book.specs.declared.contents.Content.TheVariants.{Filler, Heading, NewRule, NewEntry, End}
 use Rattle.book.specs.declared.contents.Header.{Header}
+use Rattle.book.specs.declared.record_kind.RecordKind.{RecordKind}
+use Rattle.book.specs.declared.record_kind.RecordKind.TheVariants as kinds
 use Rattle.book.specs.declared.faults.RecordFault.{RecordFault}
 use Rattle.book.specs.declared.faults.RecordFault.TheVariants.{UnknownKind, WrongLength, BadField, Test}
 use Rattle.book.specs.Fields.{good_rule, good_entry}
+
+abbrev pub kind_number : RecordKind → ℕ
+kind_number kinds.Filler = 0
+kind_number kinds.Header = 1
+kind_number kinds.Rule = 2
+kind_number kinds.Entry = 3
+kind_number kinds.End = 4
 
 abbrev pub all_zero : List ℕ → Bool
 all_zero [] = true

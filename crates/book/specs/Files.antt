@@ -15,7 +15,7 @@
 --     Faulty cs bs f          after the contents cs, f is what is wrong with the bytes bs that follow
 --     Accepted bytes h cs all the file is the records of a whole rulebook in a row, and nothing after them
 --     Refused bytes cs f      records that say cs stand at the front of the file, and what follows them is faulty
---     Opens o h cs            the answer o counts what the contents hold, and has the header's policy code
+--     Opens o h cs            the answer o counts what the contents hold, and its policy has the header's code
 --     Answer cs r             what `read` answers where the records have said cs
 --     Outcome ...             what `read` answers, and what the memory then holds
 --     Exact                   two outcomes over the same bytes and memory are equal
@@ -25,6 +25,7 @@ use Rattle.sets.specs.Bytes.{little}
 use Rattle.kinds.specs.Readings.{Reading}
 use Rattle.rules.specs.declared.entry.Entry.{Entry}
 use Rattle.rules.specs.declared.rule.Rule.{Rule}
+use Rattle.rules.specs.Verdicts.{code}
 use Rattle.book.specs.declared.contents.Content.{Content}
 use Rattle.book.specs.declared.contents.Content.TheVariants.{Filler, Heading, NewRule, NewEntry, End}
 use Rattle.book.specs.declared.contents.Header.{Header}
@@ -152,9 +153,9 @@ module _ {S : Type 0} (reads : List ℕ → Reading S) (lawful : S → Bool) (m 
     pub place_is : f.place ≡ length (flat_map (λ xs. xs) records)
     pub faulty : Faulty cs rest f.fault
 
--- the sealed book counts the rules and entries among the contents, and the policy code is the header's
+-- the sealed book counts the rules and entries among the contents, and the policy has the header's code
 pub record Opens {S : Type 0} (o : Opened) (h : Header) (cs : List (Content S)) : Type 0 where
-  pub policy_is : o.policy ≡ h.policy
+  pub policy_is : code o.policy ≡ h.policy
   pub rules_are : o.book.rules ≡ length (rules_of cs)
   pub entries_are : o.book.entries ≡ length (entries_of cs)
 

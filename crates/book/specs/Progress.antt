@@ -1,13 +1,14 @@
 -- PROGRESS: how a rulebook comes about as its records are taken in turn. For the private functions of the reader;
 -- what a file says is told without it in Files.
---     Progress               what is accepted so far; `begun` after the header, `ended` after the end record
+--     Progress               what is accepted so far: the header's policy code once that came, `ended` after the end record
+--     begun b                the header came
 --     nothing_yet            before the first record
 --     accepts m n b c        the progress b takes the content c, with memory for m rules and n entries
 --     one_more limit m xs    there is room for one after the xs, by the limit and the memory
 --     after b r, answer r    the progress after an answer, and the answer alone
 --     by_book, by_content, by_cut    the verdict, once the layer below has answered
 --     verdict ... b p bs     on the record at the front of the bytes bs, which start at the place p
-use Rattle.std.specs.Prelude.{ℕ, Bool, true, false, cond, ◌&&◌, List, [], ◌∷◌, ◌++◌, length, Ok, Err, Result, nat_lt}
+use Rattle.std.specs.Prelude.{ℕ, Bool, true, false, cond, ◌&&◌, is_some, Some, None, Option, List, [], ◌∷◌, ◌++◌, length, Ok, Err, Result, nat_lt}
 use Rattle.kinds.specs.Readings.{Reading}
 use Rattle.rules.specs.declared.entry.Entry.{Entry}
 use Rattle.rules.specs.declared.rule.Rule.{Rule}
@@ -25,41 +26,43 @@ use Rattle.book.specs.Files.{good_header}
 use Rattle.book.specs.Frames.{Piece, cut}
 
 pub record Progress (S : Type 0) : Type 0 where
-  pub begun : Bool
+  pub policy : Option ℕ
   pub ended : Bool
-  pub policy : ℕ
   pub rules : List (Rule S)
   pub entries : List Entry
 
+abbrev pub begun : {S : Type 0} → Progress S → Bool
+begun b = is_some b.policy
+
 abbrev pub nothing_yet : {S : Type 0} → Progress S
-nothing_yet = record { begun = false; ended = false; policy = 0; rules = []; entries = [] }
+nothing_yet = record { policy = None; ended = false; rules = []; entries = [] }
 
 -- one more after the xs, of at most `limit` and with memory for m
 abbrev pub one_more : {X : Type 0} → ℕ → ℕ → List X → Bool
 one_more limit m xs = nat_lt (length xs) limit && nat_lt (length xs) m
 
 abbrev pub accepts : {S : Type 0} → ℕ → ℕ → Progress S → Content S → Result (Progress S) BookFault
-accepts m n b Filler = cond b.begun (Ok b) (Err HeaderMisplaced)
+accepts m n b Filler = cond (begun b) (Ok b) (Err HeaderMisplaced)
 accepts m n b (Heading h) =
-    cond b.begun (Err HeaderMisplaced)
+    cond (begun b) (Err HeaderMisplaced)
     (cond (good_header h)
-    (Ok (record { begun = true; ended = b.ended; policy = h.policy; rules = b.rules; entries = b.entries }))
+    (Ok (record { policy = Some h.policy; ended = b.ended; rules = b.rules; entries = b.entries }))
     (Err HeaderUnknown))
 accepts m n b (NewRule r) =
-    cond b.begun
+    cond (begun b)
     (cond (one_more 64 m b.rules)
-    (Ok (record { begun = b.begun; ended = b.ended; policy = b.policy; rules = b.rules ++ r ∷ []; entries = b.entries }))
+    (Ok (record { policy = b.policy; ended = b.ended; rules = b.rules ++ r ∷ []; entries = b.entries }))
     (Err Full))
     (Err HeaderMisplaced)
 accepts m n b (NewEntry e) =
-    cond b.begun
+    cond (begun b)
     (cond (one_more 32 n b.entries)
-    (Ok (record { begun = b.begun; ended = b.ended; policy = b.policy; rules = b.rules; entries = b.entries ++ e ∷ [] }))
+    (Ok (record { policy = b.policy; ended = b.ended; rules = b.rules; entries = b.entries ++ e ∷ [] }))
     (Err Full))
     (Err HeaderMisplaced)
 accepts m n b End =
-    cond b.begun
-    (Ok (record { begun = b.begun; ended = true; policy = b.policy; rules = b.rules; entries = b.entries }))
+    cond (begun b)
+    (Ok (record { policy = b.policy; ended = true; rules = b.rules; entries = b.entries }))
     (Err HeaderMisplaced)
 
 abbrev pub after : {S E : Type 0} → Progress S → Result (Progress S) E → Progress S

@@ -4,6 +4,7 @@ ghost use Rattle.book.specs.Contents.{filler_content, header_content, rule_conte
 use crate::check::{is_good_entry, is_good_rule};
 use crate::faults::RecordFault;
 use crate::frames::Part;
+use crate::record_kind::RecordKind;
 use kinds::FileKind;
 use rules::{Entry, Rule};
 use sets::Set;
@@ -113,18 +114,17 @@ fn read_rule<K: FileKind>(body: &[u8]) -> Result<Rule<K::Test>, RecordFault>
 pub(crate) fn read_content<K: FileKind>(part: &Part) -> Result<Content<K::Test>, RecordFault>
     ensures what_the_record_says { result ≡ content K.FileKind.reads K.Kind.meaning.lawful_test part.now.kind part.now.body.now }
 {
-    match part.kind {
-        0 => {
+    match RecordKind::try_from(part.kind)? {
+        RecordKind::Filler => {
             read_filler(part.body)?;
             Ok(Content::Filler)
         }
-        1 => Ok(Content::Heading(read_header(part.body)?)),
-        2 => Ok(Content::NewRule(read_rule::<K>(part.body)?)),
-        3 => Ok(Content::NewEntry(read_entry(part.body)?)),
-        4 => {
+        RecordKind::Header => Ok(Content::Heading(read_header(part.body)?)),
+        RecordKind::Rule => Ok(Content::NewRule(read_rule::<K>(part.body)?)),
+        RecordKind::Entry => Ok(Content::NewEntry(read_entry(part.body)?)),
+        RecordKind::End => {
             read_end(part.body)?;
             Ok(Content::End)
         }
-        _ => Err(RecordFault::UnknownKind),
     }
 }

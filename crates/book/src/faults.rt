@@ -1,9 +1,11 @@
 ghost use Rattle.std.specs.Prelude.{◌≡◌};
 ghost use Rattle.book.specs.Faults.{number_of, layer_of};
 ghost use Rattle.book.specs.declared.faults.RecordFault.TheVariants.{Test};
+ghost use Rattle.book.specs.declared.faults.BookFault.TheVariants.{HeaderUnknown};
 ghost use Rattle.book.specs.declared.faults.Fault.TheVariants.{Frame, Record, Rulebook};
 
 use kinds::TestFault;
+use rules::UnknownCode;
 
 // The bytes hold no whole record.
 #[derive(Clone, Copy)]
@@ -65,6 +67,15 @@ impl From<TestFault> for RecordFault {
 
     fn from(fault: TestFault) -> RecordFault {
         RecordFault::Test(fault)
+    }
+}
+
+// A header that names a policy that is none.
+impl From<UnknownCode> for BookFault {
+    ghost from_gives = { λ _ r. r ≡ HeaderUnknown };
+
+    fn from(_: UnknownCode) -> BookFault {
+        BookFault::HeaderUnknown
     }
 }
 

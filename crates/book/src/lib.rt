@@ -9,6 +9,7 @@ mod file;
 mod frames;
 mod opened;
 mod reader;
+mod record_kind;
 mod scan;
 mod sealed;
 

@@ -1,8 +1,9 @@
 use crate::sealed::Sealed;
+use rules::Shipped;
 
-// A rulebook that was read from a file, and the policy code that the file names.
+// A rulebook that was read from a file, and the policy that the file names.
 #[derive(Drop)]
 pub struct Opened {
     pub book: Sealed,
-    pub policy: u16,
+    pub policy: Shipped,
 }

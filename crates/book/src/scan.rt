@@ -1,12 +1,16 @@
+ghost use Rattle.std.specs.Prelude.{◌≡◌, true, is_some};
+
 use crate::draft::Draft;
+use rules::Shipped;
 
 mod admit;
 
-// How far a rulebook is read: the draft that its rules and entries make, and what else its records have said.
+// How far a rulebook is read: the policy of its header once that came, whether the end came, and the draft that its rules and
+// entries make.
 #[derive(Drop)]
 pub(crate) struct Scan {
-    begun: bool,
+    policy: Option<Shipped>,
     pub(crate) ended: bool,
-    policy: u16,
     draft: Draft,
+    ghost headed: { ended ≡ true → is_some policy ≡ true },
 }

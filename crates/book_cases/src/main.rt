@@ -52,7 +52,7 @@ fn answer(
         &mut entries[0..most_entries],
     ) {
         Ok(opened) => {
-            let policy = opened.policy;
+            let policy = opened.policy.code();
             let rule_count = opened.book.rules();
             let entry_count = opened.book.entries();
             println!(rt;

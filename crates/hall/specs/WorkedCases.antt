@@ -23,7 +23,7 @@ use Rattle.rules.specs.declared.rule.Rule.{Rule}
 use Rattle.rules.specs.declared.shipped.Shipped.{Shipped}
 use Rattle.rules.specs.declared.shipped.Shipped.TheVariants.{Permission, Denial, LocalDenial}
 use Rattle.rules.specs.Rules.{Book, Senior}
-use Rattle.rules.specs.Verdicts.{judge_of}
+use Rattle.rules.specs.Verdicts.{judge_of, code}
 use Rattle.book.specs.declared.faults.FileFault.{FileFault}
 use Rattle.book.specs.declared.opened.Opened.{Opened}
 use Rattle.book.specs.Faults.{number_of}
@@ -165,7 +165,7 @@ HoldsCase (senior i j) = Senior small_book i j
 HoldsCase (comparable_only_with_itself i) =
     Senior small_book i i × ((j : ℕ) → Senior small_book i j ⊎ Senior small_book j i → j ≡ i)
 HoldsCase (accepted bytes policy rules entries) =
-    Reads bytes (λ r. (o : Opened) × (r ≡ Ok o) × (o.policy ≡ policy) × (o.book.rules ≡ rules) × (o.book.entries ≡ entries))
+    Reads bytes (λ r. (o : Opened) × (r ≡ Ok o) × (code o.policy ≡ policy) × (o.book.rules ≡ rules) × (o.book.entries ≡ entries))
 HoldsCase (refused bytes n place) = Reads bytes (λ r. (f : FileFault) × (r ≡ Err f) × (number_of f.fault ≡ n) × (f.place ≡ place))
 
 abbrev pub WorkedCases : Type 0

@@ -20,5 +20,5 @@ pub use permission::Permission;
 pub use policy::Policy;
 pub use rule::Rule;
 pub use seniority::Seniority;
-pub use shipped::Shipped;
+pub use shipped::{Shipped, UnknownCode};
 pub use view::View;

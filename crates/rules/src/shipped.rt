@@ -1,5 +1,6 @@
-ghost use Rattle.std.specs.Prelude.{◌≡◌, MatchOption, ◌≢◌};
+ghost use Rattle.std.specs.Prelude.{◌≡◌, MatchResult, ◌≢◌};
 ghost use Rattle.rules.specs.Verdicts.{code, judge_of};
+ghost use Rattle.rules.specs.declared.shipped.Shipped.{Shipped};
 ghost use Rattle.rules.specs.declared.shipped.Shipped.TheVariants.{Permission, Denial, LocalDenial};
 ghost use Rattle.rules.specs.PolicyLaws.{permission_no, denial_no, local_no, permission_yes, denial_yes, local_yes, permission_stays, denial_stays, local_stays};
 
@@ -9,26 +10,56 @@ use crate::permission::Permission;
 use crate::policy::Policy;
 use crate::seniority::Seniority;
 use sets::Set;
+use std::fmt;
 
 // The shipped policies, for a plant that chooses one at start-up.
-#[derive(Clone, Copy)]
+#[derive(Clone, Copy, Debug, PartialEq, Eq)]
 pub enum Shipped {
     Permission,
     Denial,
     LocalDenial,
 }
 
+// A code that no shipped policy has.
+#[derive(Clone, Copy, Debug, PartialEq, Eq)]
+pub struct UnknownCode(pub u16);
+
 impl Shipped {
-    // The policy with this code in a rulebook file.
-    pub fn from_code(number: u16) -> Option<Shipped>
-        ensures gives_the_policy_with_that_code { MatchOption result ((p : Shipped) → code p ≢ number) (λ p. code p ≡ number) }
+    // Its code in a rulebook file.
+    pub fn code(self) -> u16
+        ensures code_of_the_policy { result ≡ code self }
     {
-        match number {
-            1 => Some(Shipped::Permission),
-            2 => Some(Shipped::Denial),
-            3 => Some(Shipped::LocalDenial),
-            _ => None,
+        match self {
+            Shipped::Permission => 1,
+            Shipped::Denial => 2,
+            Shipped::LocalDenial => 3,
         }
+    }
+}
+
+// The policy with this code in a rulebook file.
+impl TryFrom<u16> for Shipped {
+    type Error = UnknownCode;
+
+    ghost try_from_gives = { λ number r. MatchResult r (λ p. code p ≡ number) (λ e. (e.0 ≡ number) × ((p : Shipped) → code p ≢ number)) };
+
+    fn try_from(number: u16) -> Result<Shipped, UnknownCode> {
+        match number {
+            1 => Ok(Shipped::Permission),
+            2 => Ok(Shipped::Denial),
+            3 => Ok(Shipped::LocalDenial),
+            _ => Err(UnknownCode(number)),
+        }
+    }
+}
+
+impl fmt::Display for Shipped {
+    fn fmt<W: fmt::Write>(&self, f: &mut fmt::Formatter<W>) -> fmt::Result {
+        f.write_str(match self {
+            Shipped::Permission => "permission",
+            Shipped::Denial => "denial",
+            Shipped::LocalDenial => "local denial",
+        })
     }
 }
 

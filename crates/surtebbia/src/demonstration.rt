@@ -9,6 +9,8 @@ const ROLES: u8 = 4;
 
 const MINUTES: [u32; 4] = [99, 100, 159, 160];
 
+const POLICIES: [Shipped; 3] = [Shipped::Permission, Shipped::Denial, Shipped::LocalDenial];
+
 pub fn play(rt: &HostRuntime) -> anyhow::Result<()> {
     let mut rules = blank_rules();
     let mut entries = blank_entries();
@@ -34,13 +36,11 @@ fn seniority(rt: &HostRuntime, view: &View<Hall>) -> anyhow::Result<()> {
 
 fn verdicts(rt: &HostRuntime, view: &View<Hall>) -> anyhow::Result<()> {
     let register = small_register();
-    for code in 1..4u16 {
-        if let Some(policy) = Shipped::from_code(code) {
-            let name = show::policy_name(policy);
-            println!(rt; "policy {code} ({name})")?;
-            for minute in MINUTES {
-                entitled(rt, view, policy, &register, minute)?;
-            }
+    for policy in POLICIES {
+        let code = policy.code();
+        println!(rt; "policy {code} ({policy})")?;
+        for minute in MINUTES {
+            entitled(rt, view, policy, &register, minute)?;
         }
     }
     Ok(())

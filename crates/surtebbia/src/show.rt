@@ -1,15 +1,7 @@
 // Rulebooks and refusals in words.
 use book::{FileFault, Layer, Opened};
 use hall::{EntryLine, HallTest, RuleLine};
-use rules::{Entry, Rule, Shipped};
-
-pub fn policy_name(policy: Shipped) -> &'static str {
-    match policy {
-        Shipped::Permission => "permission",
-        Shipped::Denial => "denial",
-        Shipped::LocalDenial => "local denial",
-    }
-}
+use rules::{Entry, Rule};
 
 pub fn refusal(rt: &HostRuntime, fault: &FileFault) -> anyhow::Result<()> {
     let number = fault.fault().number();
@@ -30,17 +22,14 @@ pub fn rulebook(
     rules: &[Rule<HallTest>],
     entries: &[Entry],
 ) -> anyhow::Result<()> {
-    let code = opened.policy;
-    let name = match Shipped::from_code(code) {
-        Some(policy) => policy_name(policy),
-        None => "unknown",
-    };
+    let policy = opened.policy;
+    let code = policy.code();
     let rule_count = opened.book.rules();
     let rule_word = if rule_count == 1 { "rule" } else { "rules" };
     let entry_count = opened.book.entries();
     let entry_word = if entry_count == 1 { "entry" } else { "entries" };
     println!(rt;
-        "edition 2, policy {code} ({name}), {rule_count} {rule_word}, {entry_count} {entry_word}"
+        "edition 2, policy {code} ({policy}), {rule_count} {rule_word}, {entry_count} {entry_word}"
     )?;
     for (number, rule) in rules.iter().take(rule_count).enumerate() {
         rt.println(RuleLine {

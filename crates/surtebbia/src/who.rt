@@ -38,10 +38,8 @@ pub fn run(rt: &HostRuntime, given: &[String]) -> anyhow::Result<()> {
 }
 
 fn policy_of(word: &str) -> Option<Shipped> {
-    match word.parse::<u16>() {
-        Ok(code) => Shipped::from_code(code),
-        Err(_) => None,
-    }
+    let code = word.parse::<u16>().ok()?;
+    Shipped::try_from(code).ok()
 }
 
 fn answer(

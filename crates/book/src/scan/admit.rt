@@ -1,7 +1,7 @@
-ghost use Rattle.std.specs.Prelude.{◌≡◌, true, false, length, is_ok, if◌then◌else◌, Ok, Err};
+ghost use Rattle.std.specs.Prelude.{◌≡◌, true, false, length, is_ok, is_some, if◌then◌else◌, Some, None, Ok, Err};
 ghost use Rattle.book.specs.Files.{good_header};
 ghost use Rattle.book.specs.Progress.{accepts, after, answer};
-ghost use Rattle.book.specs.Scans.{progress, Room, Rest};
+ghost use Rattle.book.specs.Scans.{progress, policy_code, Room, Rest};
 ghost use Rattle.book.specs.declared.faults.BookFault.TheVariants.{HeaderMisplaced, HeaderUnknown};
 
 use super::Scan;
@@ -9,24 +9,20 @@ use crate::contents::{Content, Header};
 use crate::draft::Draft;
 use crate::faults::BookFault;
 use crate::opened::Opened;
-use rules::{Entry, Rule};
+use rules::{Entry, Rule, Shipped};
 
 const EDITION: u16 = 2;
 
-const LAST_POLICY: u16 = 3;
-
 impl Scan {
     pub(crate) fn new() -> Scan
-        ensures not_begun { result.begun ≡ false }
+        ensures no_policy { result.policy ≡ None }
         ensures not_ended { result.ended ≡ false }
-        ensures no_policy { result.policy ≡ 0 }
         ensures no_rule { result.draft.rules ≡ 0 }
         ensures no_entry { result.draft.entries ≡ 0 }
     {
         Scan {
-            begun: false,
+            policy: None,
             ended: false,
-            policy: 0,
             draft: Draft::new(),
         }
     }
@@ -65,47 +61,44 @@ impl Scan {
 
     // The rulebook that was read, once the end record came.
     pub(crate) fn finish(self) -> Opened
-        ensures policy_of_the_header { result.policy ≡ self.policy }
+        requires { self.ended ≡ true }
+        ensures policy_of_the_header { self.policy ≡ Some result.policy }
         ensures rules_of_the_draft { result.book.rules ≡ self.draft.rules }
         ensures entries_of_the_draft { result.book.entries ≡ self.draft.entries }
     {
         let Scan {
-            begun: _,
-            ended: _,
             policy,
+            ended: _,
             draft,
         } = self;
         Opened {
             book: draft.seal(),
-            policy,
+            policy: policy.unwrap(),
         }
     }
 
     fn has_begun(&self) -> Result<(), BookFault>
-        ensures a_header_came_first { result ≡ (if self.now.begun then Ok tt else Err HeaderMisplaced) }
+        ensures a_header_came_first { result ≡ (if is_some self.now.policy then Ok tt else Err HeaderMisplaced) }
     {
-        if self.begun {
-            Ok(())
-        } else {
-            Err(BookFault::HeaderMisplaced)
+        match self.policy {
+            Some(_) => Ok(()),
+            None => Err(BookFault::HeaderMisplaced),
         }
     }
 
     fn begin(&mut self, header: Header) -> Result<(), BookFault>
-        ensures accepts_a_good_header_that_comes_first { result ≡ (if self.old.begun then Err HeaderMisplaced else (if good_header header then Ok tt else Err HeaderUnknown)) }
-        ensures begun_once_accepted { self.new.begun ≡ (if is_ok result then true else self.old.begun) }
-        ensures policy_of_an_accepted_header { self.new.policy ≡ (if is_ok result then header.policy else self.old.policy) }
+        ensures accepts_a_good_header_that_comes_first { result ≡ (if is_some self.old.policy then Err HeaderMisplaced else (if good_header header then Ok tt else Err HeaderUnknown)) }
+        ensures policy_of_an_accepted_header { policy_code self.new.policy ≡ (if is_ok result then Some header.policy else policy_code self.old.policy) }
         ensures ended_unchanged { self.new.ended ≡ self.old.ended }
         ensures draft_unchanged { self.new.draft ≡ self.old.draft }
     {
-        if self.begun {
+        if self.policy.is_some() {
             return Err(BookFault::HeaderMisplaced);
         }
-        if header.edition != EDITION || header.policy < 1 || header.policy > LAST_POLICY {
+        if header.edition != EDITION {
             return Err(BookFault::HeaderUnknown);
         }
-        self.begun = true;
-        self.policy = header.policy;
+        self.policy = Some(Shipped::try_from(header.policy)?);
         Ok(())
     }
 }

@@ -6,7 +6,7 @@ use Rattle.book.proofs.Filed.{at_start, goes_on, accepted, trailing, refused}
 use Rattle.book.proofs.file.read.Goals as goal
 
 pub loop-scan-init : goal.loop-scan-init
-loop-scan-init g c = at_start g.K.FileKind.reads g.K.Kind.meaning.lawful_test c.args.bytes.now c.new-reader.result c.new-scan.result c.args.rules.now c.args.entries.now c.new-reader.ensures.over_the_bytes c.new-reader.ensures.at_the_start c.new-scan.ensures.not_begun c.new-scan.ensures.not_ended c.new-scan.ensures.no_policy c.new-scan.ensures.no_rule c.new-scan.ensures.no_entry
+loop-scan-init g c = at_start g.K.FileKind.reads g.K.Kind.meaning.lawful_test c.args.bytes.now c.new-reader.result c.new-scan.result c.args.rules.now c.args.entries.now c.new-reader.ensures.over_the_bytes c.new-reader.ensures.at_the_start c.new-scan.ensures.no_policy c.new-scan.ensures.not_ended c.new-scan.ensures.no_rule c.new-scan.ensures.no_entry
 
 pub step-requires : goal.step-requires
 step-requires g c = c.loop-scan.invariant.room
