@@ -3,22 +3,16 @@ ghost use Rattle.std.specs.Prelude.{◌<◌};
 
 use std::alloc::AllocError;
 
+// The number that the word gives, 0 where there is no number.
 pub fn number(word: Option<&str>) -> usize {
-    match word {
-        Some(text) => match text.parse::<usize>() {
-            Ok(n) => n,
-            Err(_) => 0,
-        },
-        None => 0,
-    }
+    word.and_then(|text| text.parse().ok()).unwrap_or(0)
 }
 
 // The bytes of one word, as often as it says.
 pub fn append(file: &mut Vec<u8>, word: &str) -> Result<(), AllocError> {
-    let (digits, times) = match word.split_once('x') {
-        Some((digits, times)) => (digits, number(Some(times))),
-        None => (word, 1),
-    };
+    let (digits, times) = word
+        .split_once('x')
+        .map_or((word, 1), |(digits, times)| (digits, number(Some(times))));
     for _ in 0..times {
         for pair in digits.as_bytes().chunks(2) {
             if let [high, low] = pair {

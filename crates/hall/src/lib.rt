@@ -3,6 +3,7 @@
 
 mod cases;
 mod memory;
+mod numbers;
 mod record;
 mod show;
 mod small;
@@ -10,7 +11,8 @@ mod small_file;
 
 pub use cases::the_worked_cases_hold;
 pub use memory::{blank_entries, blank_rules};
+pub use numbers::Numbers;
 pub use record::{Hall, HallRecord, HallTest};
-pub use show::{EntryLine, Numbers, RuleLine};
+pub use show::Numbered;
 pub use small::{small_entries, small_register, small_rules};
 pub use small_file::SMALL_FILE;

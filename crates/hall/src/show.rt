@@ -1,47 +1,23 @@
+use crate::numbers::Numbers;
 use crate::record::HallTest;
 use rules::{Entry, Rule};
-use sets::Set;
 use std::fmt;
 
-// A set as a list: its numbers with commas, `-` for none, `all` for all 64.
+// A rule or an assume entry with its number, in words.
 #[derive(Clone, Copy)]
-pub struct Numbers(pub Set);
-
-impl fmt::Display for Numbers {
-    fn fmt<W: fmt::Write>(&self, f: &mut fmt::Formatter<W>) -> fmt::Result {
-        if self.0.is_empty() {
-            return f.write_str("-");
-        }
-        if self.0 == Set::all() {
-            return f.write_str("all");
-        }
-        let mut first = true;
-        for i in self.0.members() {
-            if !first {
-                f.write_str(",")?;
-            }
-            first = false;
-            write!(f, "{i}")?;
-        }
-        Ok(())
-    }
-}
-
-// A rule with its number, in words.
-#[derive(Clone, Copy)]
-pub struct RuleLine {
+pub struct Numbered<T> {
     pub number: usize,
-    pub rule: Rule<HallTest>,
+    pub item: T,
 }
 
-impl fmt::Display for RuleLine {
+impl fmt::Display for Numbered<Rule<HallTest>> {
     fn fmt<W: fmt::Write>(&self, f: &mut fmt::Formatter<W>) -> fmt::Result {
-        let (level, (certificates, sites)) = self.rule.test;
         let number = self.number;
+        let (level, (certificates, sites)) = self.item.test;
         let certificates = Numbers(certificates);
         let sites = Numbers(sites);
-        let grants = Numbers(self.rule.grants);
-        let denies = Numbers(self.rule.denies);
+        let grants = Numbers(self.item.grants);
+        let denies = Numbers(self.item.denies);
         write!(
             f,
             "rule {number}: level >= {level}, certificates {certificates}, sites {sites}; grants {grants}; denies {denies}"
@@ -49,14 +25,7 @@ impl fmt::Display for RuleLine {
     }
 }
 
-// An assume entry with its number, in words.
-#[derive(Clone, Copy)]
-pub struct EntryLine {
-    pub number: usize,
-    pub entry: Entry,
-}
-
-impl fmt::Display for EntryLine {
+impl fmt::Display for Numbered<Entry> {
     fn fmt<W: fmt::Write>(&self, f: &mut fmt::Formatter<W>) -> fmt::Result {
         let number = self.number;
         let Entry {
@@ -64,7 +33,7 @@ impl fmt::Display for EntryLine {
             second,
             start,
             duration,
-        } = self.entry;
+        } = self.item;
         write!(
             f,
             "entry {number}: role {first} leads to role {second} from minute {start} for {duration} minutes"

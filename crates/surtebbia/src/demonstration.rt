@@ -1,33 +1,35 @@
 // Who may take what in the small hall, from the bytes of its rulebook file to the last verdict.
-use crate::show;
-use book::read;
-use hall::{Hall, HallRecord, Numbers, SMALL_FILE, blank_entries, blank_rules, small_register};
-use rules::{Shipped, Verdict, View};
+use crate::rulebook::Rulebook;
+use hall::{Hall, HallRecord, Numbers, SMALL_FILE, small_register};
+use rules::{Objection, Shipped, View};
 
-// The roles of the small hall are 0 to 3.
+// The small hall has rules 0 to 3 and roles 0 to 3.
+const RULES: u8 = 4;
+
 const ROLES: u8 = 4;
-
-const MINUTES: [u32; 4] = [99, 100, 159, 160];
 
 const POLICIES: [Shipped; 3] = [Shipped::Permission, Shipped::Denial, Shipped::LocalDenial];
 
+const MINUTES: [u32; 4] = [99, 100, 159, 160];
+
 pub fn play(rt: &HostRuntime) -> anyhow::Result<()> {
-    let mut rules = blank_rules();
-    let mut entries = blank_entries();
-    match read::<Hall>(&SMALL_FILE, &mut rules, &mut entries) {
-        Ok(opened) => {
-            show::rulebook(rt, &opened, &rules, &entries)?;
-            let view: View<Hall> = opened.book.view(&rules, &entries);
+    match Rulebook::read(&SMALL_FILE) {
+        Ok(book) => {
+            println!(rt; "{book}")?;
+            let view = book.view();
             seniority(rt, &view)?;
             verdicts(rt, &view)
         }
-        Err(fault) => show::refusal(rt, &fault),
+        Err(fault) => {
+            println!(rt; "refused: {fault}")?;
+            Ok(())
+        }
     }
 }
 
 fn seniority(rt: &HostRuntime, view: &View<Hall>) -> anyhow::Result<()> {
     let senior = view.seniority();
-    for number in 0..4u8 {
+    for number in 0..RULES {
         let juniors = Numbers(senior.juniors(number));
         println!(rt; "rule {number} is senior to {juniors}")?;
     }
@@ -71,7 +73,7 @@ fn refusals(
     minute: u32,
 ) -> anyhow::Result<()> {
     for role in 0..ROLES {
-        if let Verdict::Denied { rule } = view.verdict(&policy, record, role, minute) {
+        if let Err(Objection::Denied { rule }) = view.verdict(&policy, record, role, minute) {
             print!(rt; "; role {role} refused by rule {rule}")?;
         }
     }

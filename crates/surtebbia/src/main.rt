@@ -3,7 +3,6 @@
 
 mod demonstration;
 mod rulebook;
-mod show;
 mod who;
 mod words;
 
@@ -19,10 +18,7 @@ fn main(rt: HostRuntime) -> ExitCode {
 }
 
 fn run(rt: &HostRuntime) -> anyhow::Result<()> {
-    let mut given = Vec::new(rt.alloc());
-    for word in env::args(rt)?.skip(1) {
-        given.push(word)?;
-    }
+    let given: Vec<String> = env::args(rt)?.skip(1).collect(rt.alloc())?;
     let Some(command) = given.first() else {
         return demonstration::play(rt);
     };

@@ -1,20 +1,75 @@
-// `book FILE`: the rulebook in words, or the refusal.
-use crate::{show, words};
-use book::read;
-use hall::{Hall, blank_entries, blank_rules};
-use std::fs;
+// A hall's rulebook as the command reads it.
+use crate::words;
+use book::{FileFault, Opened, read};
+use hall::{Hall, HallTest, Numbered, blank_entries, blank_rules};
+use rules::{Entry, Rule, View};
+use std::{fmt, fs};
 
+// The sealed book, and the memory that its rules and entries stand in.
+#[derive(Drop)]
+pub struct Rulebook {
+    opened: Opened,
+    rules: [Rule<HallTest>; 64],
+    entries: [Entry; 32],
+}
+
+impl Rulebook {
+    pub fn read(bytes: &[u8]) -> Result<Rulebook, FileFault> {
+        let mut rules = blank_rules();
+        let mut entries = blank_entries();
+        let opened = read::<Hall>(bytes, &mut rules, &mut entries)?;
+        Ok(Rulebook {
+            opened,
+            rules,
+            entries,
+        })
+    }
+
+    pub fn view(&self) -> View<Hall> {
+        self.opened.book.view(&self.rules, &self.entries)
+    }
+}
+
+impl fmt::Display for Rulebook {
+    fn fmt<W: fmt::Write>(&self, f: &mut fmt::Formatter<W>) -> fmt::Result {
+        let policy = self.opened.policy;
+        let code = policy.code();
+        let rule_count = self.opened.book.rules();
+        let rule_word = if rule_count == 1 { "rule" } else { "rules" };
+        let entry_count = self.opened.book.entries();
+        let entry_word = if entry_count == 1 { "entry" } else { "entries" };
+        write!(
+            f,
+            "edition 2, policy {code} ({policy}), {rule_count} {rule_word}, {entry_count} {entry_word}"
+        )?;
+        for (number, rule) in self.rules.iter().take(rule_count).enumerate() {
+            let line = Numbered { number, item: *rule };
+            write!(f, "\n{line}")?;
+        }
+        for (number, entry) in self.entries.iter().take(entry_count).enumerate() {
+            let line = Numbered { number, item: *entry };
+            write!(f, "\n{line}")?;
+        }
+        Ok(())
+    }
+}
+
+// `book FILE`: the rulebook in words, or the refusal.
 pub fn run(rt: &HostRuntime, given: &[String]) -> anyhow::Result<()> {
     let [_, path] = given else {
         return words::bad(rt, "expected one file after", "book");
     };
-    let Ok(bytes) = fs::read(rt, path.as_str()) else {
-        return words::bad(rt, "cannot read", path.as_str());
-    };
-    let mut rules = blank_rules();
-    let mut entries = blank_entries();
-    match read::<Hall>(bytes.as_slice(), &mut rules, &mut entries) {
-        Ok(opened) => show::rulebook(rt, &opened, &rules, &entries),
-        Err(fault) => show::refusal(rt, &fault),
+    match open(rt, path.as_str())? {
+        Ok(book) => println!(rt; "{book}")?,
+        Err(fault) => println!(rt; "refused: {fault}")?,
+    }
+    Ok(())
+}
+
+// The rulebook in the file.
+pub fn open(rt: &HostRuntime, path: &str) -> anyhow::Result<Result<Rulebook, FileFault>> {
+    match fs::read(rt, path) {
+        Ok(bytes) => Ok(Rulebook::read(bytes.as_slice())),
+        Err(_) => words::bad(rt, "cannot read", path),
     }
 }
