@@ -79,6 +79,30 @@ impl From<UnknownCode> for BookFault {
     }
 }
 
+impl From<FrameFault> for Fault {
+    ghost from_gives = { λ e r. r ≡ Frame e };
+
+    fn from(fault: FrameFault) -> Fault {
+        Fault::Frame(fault)
+    }
+}
+
+impl From<RecordFault> for Fault {
+    ghost from_gives = { λ e r. r ≡ Record e };
+
+    fn from(fault: RecordFault) -> Fault {
+        Fault::Record(fault)
+    }
+}
+
+impl From<BookFault> for Fault {
+    ghost from_gives = { λ e r. r ≡ Rulebook e };
+
+    fn from(fault: BookFault) -> Fault {
+        Fault::Rulebook(fault)
+    }
+}
+
 impl From<At<FrameFault>> for FileFault {
     ghost from_gives = { λ e r. r ≡ record { place = e.place; fault = Frame e.fault } };
 
