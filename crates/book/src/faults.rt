@@ -6,6 +6,7 @@ ghost use Rattle.book.specs.declared.faults.Fault.TheVariants.{Frame, Record, Ru
 
 use kinds::TestFault;
 use rules::UnknownCode;
+use std::fmt;
 
 // The bytes hold no whole record.
 #[derive(Clone, Copy)]
@@ -103,35 +104,14 @@ impl From<BookFault> for Fault {
     }
 }
 
-impl From<At<FrameFault>> for FileFault {
-    ghost from_gives = { λ e r. r ≡ record { place = e.place; fault = Frame e.fault } };
+// A fault of any layer is the file's at the place of its record.
+impl<F: Into<Fault>> From<At<F>> for FileFault {
+    ghost from_gives = { λ e r. (r.place ≡ e.place) × F.converts e.fault r.fault };
 
-    fn from(at: At<FrameFault>) -> FileFault {
+    fn from(at: At<F>) -> FileFault {
         FileFault {
             place: at.place,
-            fault: Fault::Frame(at.fault),
-        }
-    }
-}
-
-impl From<At<RecordFault>> for FileFault {
-    ghost from_gives = { λ e r. r ≡ record { place = e.place; fault = Record e.fault } };
-
-    fn from(at: At<RecordFault>) -> FileFault {
-        FileFault {
-            place: at.place,
-            fault: Fault::Record(at.fault),
-        }
-    }
-}
-
-impl From<At<BookFault>> for FileFault {
-    ghost from_gives = { λ e r. r ≡ record { place = e.place; fault = Rulebook e.fault } };
-
-    fn from(at: At<BookFault>) -> FileFault {
-        FileFault {
-            place: at.place,
-            fault: Fault::Rulebook(at.fault),
+            fault: at.fault.into(),
         }
     }
 }
@@ -177,5 +157,24 @@ impl FileFault {
         ensures what_was_found_wrong { result ≡ self.now.fault }
     {
         self.fault
+    }
+}
+
+impl fmt::Display for Layer {
+    fn fmt<W: fmt::Write>(&self, f: &mut fmt::Formatter<W>) -> fmt::Result {
+        f.write_str(match self {
+            Layer::Frame => "frame",
+            Layer::Record => "record",
+            Layer::Rulebook => "rulebook",
+        })
+    }
+}
+
+impl fmt::Display for FileFault {
+    fn fmt<W: fmt::Write>(&self, f: &mut fmt::Formatter<W>) -> fmt::Result {
+        let number = self.fault.number();
+        let layer = self.fault.layer();
+        let place = self.place;
+        write!(f, "{number} ({layer}) at byte {place}")
     }
 }

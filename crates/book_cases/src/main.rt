@@ -7,7 +7,7 @@
 mod bytes;
 mod drafts;
 
-use book::{Layer, read};
+use book::read;
 use hall::{Hall, blank_entries, blank_rules};
 
 fn main(rt: HostRuntime) -> anyhow::Result<()> {
@@ -59,16 +59,7 @@ fn answer(
                 "{name}: accepted, policy {policy}, rules {rule_count}, entries {entry_count}"
             )?;
         }
-        Err(fault) => {
-            let number = fault.fault().number();
-            let layer = match fault.fault().layer() {
-                Layer::Frame => "frame",
-                Layer::Record => "record",
-                Layer::Rulebook => "rulebook",
-            };
-            let place = fault.place();
-            println!(rt; "{name}: {number} ({layer}) at byte {place}")?;
-        }
+        Err(fault) => println!(rt; "{name}: {fault}")?,
     }
     Ok(())
 }

@@ -1,17 +1,11 @@
 // Rulebooks and refusals in words.
-use book::{FileFault, Layer, Opened};
+use book::{FileFault, Opened};
 use hall::{EntryLine, HallTest, RuleLine};
 use rules::{Entry, Rule};
 
 pub fn refusal(rt: &HostRuntime, fault: &FileFault) -> anyhow::Result<()> {
-    let number = fault.fault().number();
-    let layer = match fault.fault().layer() {
-        Layer::Frame => "frame",
-        Layer::Record => "record",
-        Layer::Rulebook => "rulebook",
-    };
-    let place = fault.place();
-    println!(rt; "refused: {number} ({layer}) at byte {place}")?;
+    let fault = *fault;
+    println!(rt; "refused: {fault}")?;
     Ok(())
 }
 
