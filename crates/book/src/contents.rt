@@ -29,12 +29,11 @@ pub(crate) enum Content<T> {
 fn read_filler(body: &[u8]) -> Result<(), RecordFault>
     ensures accepts_exactly_zeros { result ≡ filler_content body.now }
 {
-    for b in body {
-        if *b != 0 {
-            return Err(RecordFault::BadField);
-        }
+    if body.iter().all(|b| *b == 0) {
+        Ok(())
+    } else {
+        Err(RecordFault::BadField)
     }
-    Ok(())
 }
 
 fn read_header(body: &[u8]) -> Result<Header, RecordFault>
