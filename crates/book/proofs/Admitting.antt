@@ -8,7 +8,7 @@ use Rattle.rules.specs.declared.rule.Rule.{Rule}
 use Rattle.rules.specs.declared.shipped.Shipped.{Shipped}
 use Rattle.book.specs.declared.contents.Content.{Content}
 use Rattle.book.specs.declared.contents.Content.TheVariants.{NewRule, NewEntry}
-use Rattle.book.specs.declared.draft.Draft.{Draft}
+use Rattle.book.specs.declared.count.Count.{Count}
 use Rattle.book.specs.declared.faults.BookFault.{BookFault}
 use Rattle.book.specs.declared.faults.BookFault.TheVariants.{Full, HeaderMisplaced}
 use Rattle.book.specs.declared.scan.Scan.{Scan}
@@ -75,70 +75,71 @@ begun_is : (b : Bool) (u : Unit {0}) → ◌≡◌ {A = Result (Unit {0}) BookFa
 begun_is true u e = refl
 begun_is false u e = let z : ◌≡◌ {A = ℕ} 0 1 = cc in absurd (let y : ⊥ = omega arith in y)
 
-module _ {S : Type 0} (s : Scan) (d : Draft) (rs : List (Rule S)) (es : List Entry) (room : Room s rs es) where
-  abbrev t : Scan
-  t = record { policy = s.policy; ended = s.ended; draft = d; headed = s.headed }
+module _ {S : Type 0} (s : Scan) (rs : List (Rule S)) (es : List Entry) (room : Room s rs es) where
+  abbrev with_rules : Count 64 → Scan
+  with_rules k = record { policy = s.policy; ended = s.ended; draft = record { rules = k; entries = s.draft.entries }; headed = s.headed }
 
-  pub rule_done : (rs' : List (Rule S)) (content : Content S) (rule : Rule S) (u : Unit {0}) (r : Result (Unit {0}) BookFault) → content ≡ NewRule rule → ◌≡◌ {A = Result (Unit {0}) BookFault} (Ok u) (cond (is_some s.policy) (Ok tt) (Err HeaderMisplaced)) → Stored 64 rs rule s.draft.rules d.rules rs' r → d.entries ≡ s.draft.entries → Done s t rs rs' es es content r
-  rule_done rs' content rule u r is begun st stay =
+  abbrev with_entries : Count 32 → Scan
+  with_entries k = record { policy = s.policy; ended = s.ended; draft = record { rules = s.draft.rules; entries = k }; headed = s.headed }
+
+  pub rule_done : (k : Count 64) (rs' : List (Rule S)) (content : Content S) (rule : Rule S) (u : Unit {0}) (r : Result (Unit {0}) BookFault) → content ≡ NewRule rule → ◌≡◌ {A = Result (Unit {0}) BookFault} (Ok u) (cond (is_some s.policy) (Ok tt) (Err HeaderMisplaced)) → Stored 64 rs rule s.draft.rules.count k.count rs' r → Done s (with_rules k) rs rs' es es content r
+  rule_done k rs' content rule u r is begun st =
       let b : is_some (policy_code s.policy) ≡ true = is_some-policy_code s.policy ∙ begun_is (is_some s.policy) u begun in
-      let e = room_is 64 s.draft.rules rs room.rules in
-      let kept : take d.entries es ≡ take s.draft.entries es = ap (λ k. take k es) stay in
-      let a : accepts (length rs) (length es) (progress s rs es) content ≡ cond (one_more 64 (length rs) (take s.draft.rules rs)) (Ok (record { policy = policy_code s.policy; ended = s.ended; rules = take s.draft.rules rs ++ rule ∷ []; entries = take s.draft.entries es })) (Err Full) =
+      let e = room_is 64 s.draft.rules.count rs room.rules in
+      let a : accepts (length rs) (length es) (progress s rs es) content ≡ cond (one_more 64 (length rs) (take s.draft.rules.count rs)) (Ok (record { policy = policy_code s.policy; ended = s.ended; rules = take s.draft.rules.count rs ++ rule ∷ []; entries = take s.draft.entries.count es })) (Err Full) =
       ap (accepts (length rs) (length es) (progress s rs es)) is ∙ cond-true _ _ _ b in
       ⊎_elim
       (λ fits.
-      let x = stored_more 64 rs rule s.draft.rules d.rules rs' r st fits in
+      let x = stored_more 64 rs rule s.draft.rules.count k.count rs' r st fits in
       let v = a ∙ cond-true _ _ _ (e ∙ fits) in
       let f = x.front in
       record {
         answered = x.granted ∙ sym (ap answer v);
-        taken = (let w : progress t rs' es ≡ record { policy = policy_code s.policy; ended = s.ended; rules = take s.draft.rules rs ++ rule ∷ []; entries = take s.draft.entries es } = cc in w) ∙ sym (ap (after (progress s rs es)) v);
-        room = record { rules = let l = x.long in let n = x.next in let k = x.within in omega arith; entries = let h = room.entries in omega arith };
+        taken = (let w : progress (with_rules k) rs' es ≡ record { policy = policy_code s.policy; ended = s.ended; rules = take s.draft.rules.count rs ++ rule ∷ []; entries = take s.draft.entries.count es } = cc in w) ∙ sym (ap (after (progress s rs es)) v);
+        room = record { rules = let l = x.long in let n = x.next in let w = x.within in omega arith; entries = room.entries };
         rest = record { more_rules = let n = x.next in omega arith; more_entries = omega arith; rules = x.rest; entries = refl };
       })
       (λ none.
-      let x = stored_same 64 rs rule s.draft.rules d.rules rs' r st none in
+      let x = stored_same 64 rs rule s.draft.rules.count k.count rs' r st none in
       let v = a ∙ cond-false _ _ _ (e ∙ none) in
       let m = x.memory in
       let n = x.still in
-      let same : take d.rules rs' ≡ take s.draft.rules rs = cc in
+      let same : take k.count rs' ≡ take s.draft.rules.count rs = cc in
       record {
         answered = x.refused ∙ sym (ap answer v);
-        taken = (let w : progress t rs' es ≡ progress s rs es = cc in w) ∙ sym (ap (after (progress s rs es)) v);
-        room = record { rules = let h = room.rules in let l = ap length m in omega arith; entries = let h = room.entries in omega arith };
-        rest = record { more_rules = omega arith; more_entries = omega arith; rules = ap (drop d.rules) m; entries = refl };
+        taken = (let w : progress (with_rules k) rs' es ≡ progress s rs es = cc in w) ∙ sym (ap (after (progress s rs es)) v);
+        room = record { rules = let h = room.rules in let l = ap length m in omega arith; entries = room.entries };
+        rest = record { more_rules = omega arith; more_entries = omega arith; rules = ap (drop k.count) m; entries = refl };
       })
-      (cases_Bool (has_room 64 s.draft.rules rs))
+      (cases_Bool (has_room 64 s.draft.rules.count rs))
 
-  pub entry_done : (es' : List Entry) (content : Content S) (entry : Entry) (u : Unit {0}) (r : Result (Unit {0}) BookFault) → content ≡ NewEntry entry → ◌≡◌ {A = Result (Unit {0}) BookFault} (Ok u) (cond (is_some s.policy) (Ok tt) (Err HeaderMisplaced)) → Stored 32 es entry s.draft.entries d.entries es' r → d.rules ≡ s.draft.rules → Done s t rs rs es es' content r
-  entry_done es' content entry u r is begun st stay =
+  pub entry_done : (k : Count 32) (es' : List Entry) (content : Content S) (entry : Entry) (u : Unit {0}) (r : Result (Unit {0}) BookFault) → content ≡ NewEntry entry → ◌≡◌ {A = Result (Unit {0}) BookFault} (Ok u) (cond (is_some s.policy) (Ok tt) (Err HeaderMisplaced)) → Stored 32 es entry s.draft.entries.count k.count es' r → Done s (with_entries k) rs rs es es' content r
+  entry_done k es' content entry u r is begun st =
       let b : is_some (policy_code s.policy) ≡ true = is_some-policy_code s.policy ∙ begun_is (is_some s.policy) u begun in
-      let e = room_is 32 s.draft.entries es room.entries in
-      let kept : take d.rules rs ≡ take s.draft.rules rs = ap (λ k. take k rs) stay in
-      let a : accepts (length rs) (length es) (progress s rs es) content ≡ cond (one_more 32 (length es) (take s.draft.entries es)) (Ok (record { policy = policy_code s.policy; ended = s.ended; rules = take s.draft.rules rs; entries = take s.draft.entries es ++ entry ∷ [] })) (Err Full) =
+      let e = room_is 32 s.draft.entries.count es room.entries in
+      let a : accepts (length rs) (length es) (progress s rs es) content ≡ cond (one_more 32 (length es) (take s.draft.entries.count es)) (Ok (record { policy = policy_code s.policy; ended = s.ended; rules = take s.draft.rules.count rs; entries = take s.draft.entries.count es ++ entry ∷ [] })) (Err Full) =
       ap (accepts (length rs) (length es) (progress s rs es)) is ∙ cond-true _ _ _ b in
       ⊎_elim
       (λ fits.
-      let x = stored_more 32 es entry s.draft.entries d.entries es' r st fits in
+      let x = stored_more 32 es entry s.draft.entries.count k.count es' r st fits in
       let v = a ∙ cond-true _ _ _ (e ∙ fits) in
       let f = x.front in
       record {
         answered = x.granted ∙ sym (ap answer v);
-        taken = (let w : progress t rs es' ≡ record { policy = policy_code s.policy; ended = s.ended; rules = take s.draft.rules rs; entries = take s.draft.entries es ++ entry ∷ [] } = cc in w) ∙ sym (ap (after (progress s rs es)) v);
-        room = record { rules = let h = room.rules in omega arith; entries = let l = x.long in let n = x.next in let k = x.within in omega arith };
+        taken = (let w : progress (with_entries k) rs es' ≡ record { policy = policy_code s.policy; ended = s.ended; rules = take s.draft.rules.count rs; entries = take s.draft.entries.count es ++ entry ∷ [] } = cc in w) ∙ sym (ap (after (progress s rs es)) v);
+        room = record { rules = room.rules; entries = let l = x.long in let n = x.next in let w = x.within in omega arith };
         rest = record { more_rules = omega arith; more_entries = let n = x.next in omega arith; rules = refl; entries = x.rest };
       })
       (λ none.
-      let x = stored_same 32 es entry s.draft.entries d.entries es' r st none in
+      let x = stored_same 32 es entry s.draft.entries.count k.count es' r st none in
       let v = a ∙ cond-false _ _ _ (e ∙ none) in
       let m = x.memory in
       let n = x.still in
-      let same : take d.entries es' ≡ take s.draft.entries es = cc in
+      let same : take k.count es' ≡ take s.draft.entries.count es = cc in
       record {
         answered = x.refused ∙ sym (ap answer v);
-        taken = (let w : progress t rs es' ≡ progress s rs es = cc in w) ∙ sym (ap (after (progress s rs es)) v);
-        room = record { rules = let h = room.rules in omega arith; entries = let h = room.entries in let l = ap length m in omega arith };
-        rest = record { more_rules = omega arith; more_entries = omega arith; rules = refl; entries = ap (drop d.entries) m };
+        taken = (let w : progress (with_entries k) rs es' ≡ progress s rs es = cc in w) ∙ sym (ap (after (progress s rs es)) v);
+        room = record { rules = room.rules; entries = let h = room.entries in let l = ap length m in omega arith };
+        rest = record { more_rules = omega arith; more_entries = omega arith; rules = refl; entries = ap (drop k.count) m };
       })
-      (cases_Bool (has_room 32 s.draft.entries es))
+      (cases_Bool (has_room 32 s.draft.entries.count es))

@@ -18,7 +18,7 @@ use Rattle.rules.specs.Verdicts.{code}
 use Rattle.rules.specs.declared.entry.Entry.{Entry}
 use Rattle.book.specs.declared.contents.Content.{Content}
 use Rattle.book.specs.declared.opened.Opened.{Opened}
-use Rattle.book.specs.declared.sealed.Sealed.{Sealed}
+use Rattle.book.specs.declared.count.Count.{Count}
 use Rattle.sets.specs.Bytes.{little}
 use Rattle.book.specs.Frames.{cut}
 use Rattle.kinds.specs.Readings.{Reading}
@@ -29,12 +29,10 @@ use Rattle.book.proofs.Untold.{untold}
 use Rattle.book.proofs.FrameLaws.{cut_short, cut_long, cut_is}
 
 -- two answers that count the same book are one
-one_sealed : (a b c d : ℕ) (p : a ≤ 64) (q : b ≤ 32) (s : c ≤ 64) (t : d ≤ 32) → a ≡ c → b ≡ d → ◌≡◌ {A = Sealed} (record { rules = a; entries = b; few = p; short = q }) (record { rules = c; entries = d; few = s; short = t })
-one_sealed a b c d p q s t e f =
-    let P : ℕ → Type 0 = λ k. (h : k ≤ 64) → ◌≡◌ {A = Sealed} (record { rules = a; entries = b; few = p; short = q }) (record { rules = k; entries = b; few = h; short = q }) in
-    let Q : ℕ → Type 0 = λ k. (h : k ≤ 32) → ◌≡◌ {A = Sealed} (record { rules = c; entries = b; few = s; short = q }) (record { rules = c; entries = k; few = s; short = h }) in
-    subst P e (λ h. ap (λ z. record { rules = a; entries = b; few = z; short = q }) (le_prop p h)) s
-    ∙ subst Q f (λ h. ap (λ z. record { rules = c; entries = b; few = s; short = z }) (le_prop q h)) t
+one_count : {n : ℕ} (a b : Count n) → a.count ≡ b.count → a ≡ b
+one_count {n} a b e =
+    let P : ℕ → Type 0 = λ k. (h : k ≤ n) → ◌≡◌ {A = Count n} a (record { count = k; within = h }) in
+    subst P e (λ h. ap (λ z. record { count = a.count; within = z }) (le_prop a.within h)) b.within
 
 -- no two policies have one code
 one_code : (p q : Shipped) → code p ≡ code q → p ≡ q
@@ -50,9 +48,12 @@ one_code LocalDenial LocalDenial e = refl
 
 same_opened : {S : Type 0} (b : Progress S) (o k : Opened) → Counts o b → Counts k b → o ≡ k
 same_opened b o k x y =
-    let book : o.book ≡ k.book = one_sealed o.book.rules o.book.entries k.book.rules k.book.entries o.book.few o.book.short k.book.few k.book.short (x.rules_are ∙ sym y.rules_are) (x.entries_are ∙ sym y.entries_are) in
+    let rules : o.book.rules ≡ k.book.rules = one_count o.book.rules k.book.rules (x.rules_are ∙ sym y.rules_are) in
+    let entries : o.book.entries ≡ k.book.entries = one_count o.book.entries k.book.entries (x.entries_are ∙ sym y.entries_are) in
     let policy : o.policy ≡ k.policy = one_code o.policy k.policy (same_some (x.policy_is ∙ sym y.policy_is)) in
-    ap (λ s. record { book = s; policy = o.policy }) book ∙ ap (λ p. record { book = k.book; policy = p }) policy
+    ap (λ (s : Count 64). record { book = record { rules = s; entries = o.book.entries }; policy = o.policy }) rules
+    ∙ ap (λ (s : Count 32). record { book = record { rules = k.book.rules; entries = s }; policy = o.policy }) entries
+    ∙ ap (λ p. record { book = k.book; policy = p }) policy
 
 abbrev whole : List (List ℕ) → List ℕ
 whole xss = flat_map (λ xs. xs) xss

@@ -27,15 +27,15 @@ module _ {S : Type 0} (reads : List ℕ → Reading S) (lawful : S → Bool) (by
     pub read : take d.place bytes ≡ whole records
     pub makes : Makes reads lawful (length rs₀) (length es₀) nothing_yet records (progress s rs es)
     pub room : Room s rs es
-    pub rules : drop s.draft.rules rs ≡ drop s.draft.rules rs₀
-    pub entries : drop s.draft.entries es ≡ drop s.draft.entries es₀
+    pub rules : drop s.draft.rules.count rs ≡ drop s.draft.rules.count rs₀
+    pub entries : drop s.draft.entries.count es ≡ drop s.draft.entries.count es₀
     pub rules_long : length rs ≡ length rs₀
     pub entries_long : length es ≡ length es₀
 
-  pub at_start : (d : Reader) (s : Scan) (rs : List (Rule S)) (es : List Entry) → d.bytes.now ≡ bytes → d.place ≡ 0 → s.policy ≡ None → s.ended ≡ false → s.draft.rules ≡ 0 → s.draft.entries ≡ 0 → Standing d s rs rs es es
+  pub at_start : (d : Reader) (s : Scan) (rs : List (Rule S)) (es : List Entry) → d.bytes.now ≡ bytes → d.place ≡ 0 → s.policy ≡ None → s.ended ≡ false → s.draft.rules.count ≡ 0 → s.draft.entries.count ≡ 0 → Standing d s rs rs es es
   at_start d s rs es h k p e r t =
-      let tr : take s.draft.rules rs ≡ [] = ap (λ n. take n rs) r in
-      let te : take s.draft.entries es ≡ [] = ap (λ n. take n es) t in
+      let tr : take s.draft.rules.count rs ≡ [] = ap (λ n. take n rs) r in
+      let te : take s.draft.entries.count es ≡ [] = ap (λ n. take n es) t in
       let coded : policy_code s.policy ≡ None = ap policy_code p in
       let start : nothing_yet ≡ progress s rs es = cc in
       record {
@@ -82,8 +82,8 @@ module _ {S : Type 0} (reads : List ℕ → Reading S) (lawful : S → Bool) (by
           read = ap (λ n. take n bytes) p ∙ (take-add d.place (length (front (left d))) bytes ∙ (ap (λ xs. xs ++ take (length (front (left d))) (drop d.place bytes)) st.read ∙ (ap (λ xs. whole st.records ++ xs) f ∙ j)));
           makes = makes_more reads lawful (length rs₀) (length es₀) nothing_yet (progress s rs es) (progress s' rs' es') st.records (front (left d)) st.makes (subst (λ (c : Progress S). Takes reads lawful (length rs₀) (length es₀) (progress s rs es) (front (left d)) c) (sym b) o.takes);
           room = sp.room;
-          rules = further rs rs₀ rs' s.draft.rules s'.draft.rules sp.rest.more_rules st.rules sp.rest.rules;
-          entries = further es es₀ es' s.draft.entries s'.draft.entries sp.rest.more_entries st.entries sp.rest.entries;
+          rules = further rs rs₀ rs' s.draft.rules.count s'.draft.rules.count sp.rest.more_rules st.rules sp.rest.rules;
+          entries = further es es₀ es' s.draft.entries.count s'.draft.entries.count sp.rest.more_entries st.entries sp.rest.entries;
           rules_long = lr ∙ rl;
           entries_long = le ∙ el;
         },
@@ -98,15 +98,15 @@ module _ {S : Type 0} (reads : List ℕ → Reading S) (lawful : S → Bool) (by
 
   module _ (d : Reader) (s : Scan) (rs₀ rs : List (Rule S)) (es₀ es : List Entry) (st : Standing d s rs₀ rs es₀ es) where
     -- all bytes are read
-    pub accepted : (o : Opened) → s.policy ≡ Some o.policy → o.book.rules ≡ s.draft.rules → o.book.entries ≡ s.draft.entries → length bytes ≤ d.place → s.ended ≡ true → Run reads lawful bytes rs₀ es₀ rs es (Ok o)
+    pub accepted : (o : Opened) → s.policy ≡ Some o.policy → o.book.rules.count ≡ s.draft.rules.count → o.book.entries.count ≡ s.draft.entries.count → length bytes ≤ d.place → s.ended ≡ true → Run reads lawful bytes rs₀ es₀ rs es (Ok o)
     accepted o op or oe h e =
-        let a : length (take s.draft.rules rs) ≡ s.draft.rules = length-take-le s.draft.rules rs st.room.rules in
-        let b : length (take s.draft.entries es) ≡ s.draft.entries = length-take-le s.draft.entries es st.room.entries in
+        let a : length (take s.draft.rules.count rs) ≡ s.draft.rules.count = length-take-le s.draft.rules.count rs st.room.rules in
+        let b : length (take s.draft.entries.count es) ≡ s.draft.entries.count = length-take-le s.draft.entries.count es st.room.entries in
         record {
           book = progress s rs es;
           came = (record { records = st.records; whole = sym (take_all d.place bytes h) ∙ st.read; makes = st.makes; ended = e }, record { policy_is = sym (ap policy_code op); rules_are = or ∙ sym a; entries_are = oe ∙ sym b });
-          rules = kept rs rs₀ _ s.draft.rules st.room.rules refl st.rules;
-          entries = kept es es₀ _ s.draft.entries st.room.entries refl st.entries;
+          rules = kept rs rs₀ _ s.draft.rules.count st.room.rules refl st.rules;
+          entries = kept es es₀ _ s.draft.entries.count st.room.entries refl st.entries;
         }
 
     -- bytes are left after the end record
@@ -124,8 +124,8 @@ module _ {S : Type 0} (reads : List ℕ → Reading S) (lawful : S → Bool) (by
             place = sym l ∙ ap length st.read;
             faulty = (e, omega arith);
           };
-          rules = kept rs rs₀ _ s.draft.rules st.room.rules refl st.rules;
-          entries = kept es es₀ _ s.draft.entries st.room.entries refl st.entries;
+          rules = kept rs rs₀ _ s.draft.rules.count st.room.rules refl st.rules;
+          entries = kept es es₀ _ s.draft.entries.count st.room.entries refl st.entries;
         }
 
   answer_err : {X E : Type 0} (x : Result X E) (f : E) → Err f ≡ answer x → x ≡ Err f
@@ -152,6 +152,6 @@ module _ {S : Type 0} (reads : List ℕ → Reading S) (lawful : S → Bool) (by
           place = y.0 ∙ (sym k ∙ ap length st.read);
           faulty = y.1;
         };
-        rules = kept rs' rs₀ _ s'.draft.rules sp.room.rules (ap (λ c. c.rules) b) (further rs rs₀ rs' s.draft.rules s'.draft.rules sp.rest.more_rules st.rules sp.rest.rules);
-        entries = kept es' es₀ _ s'.draft.entries sp.room.entries (ap (λ c. c.entries) b) (further es es₀ es' s.draft.entries s'.draft.entries sp.rest.more_entries st.entries sp.rest.entries);
+        rules = kept rs' rs₀ _ s'.draft.rules.count sp.room.rules (ap (λ c. c.rules) b) (further rs rs₀ rs' s.draft.rules.count s'.draft.rules.count sp.rest.more_rules st.rules sp.rest.rules);
+        entries = kept es' es₀ _ s'.draft.entries.count sp.room.entries (ap (λ c. c.entries) b) (further es es₀ es' s.draft.entries.count s'.draft.entries.count sp.rest.more_entries st.entries sp.rest.entries);
       }

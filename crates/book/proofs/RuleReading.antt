@@ -1,5 +1,5 @@
 -- The record of a rule: its two sets, then its test.
-use Rattle.std.proofs.Common.{◌≡◌, ℕ, ◌-◌, ◌≤◌, Bool, true, false, cond, List, length, drop, Ok, Err, sym, ap, ◌∙◌, arith, length-drop}
+use Rattle.std.proofs.Common.{◌≡◌, ℕ, ◌-◌, ◌≤◌, Bool, cond, List, length, drop, Ok, Err, sym, ap, ◌∙◌, arith, length-drop}
 use Rattle.std.proofs.lemmas.List.{drop-drop}
 use Rattle.std.proofs.lemmas.Bool.{cond-true, cond-false, le-leb, eq-eqb, ne_eqb}
 use Rattle.sets.specs.declared.set.Set.{Set}
@@ -50,14 +50,8 @@ module _ {S : Type 0} (reads : List ℕ → Reading S) (lawful : S → Bool) (bs
       same : made ≡ record { test = t; grants = g; denies = d }
       same = ap (λ s. record { test = t; grants = s; denies = sd }) eg ∙ ap (λ s. record { test = t; grants = g; denies = s }) ed
 
-      judged : n ≡ length rest → rule_content reads lawful bs ≡ cond (good_rule lawful made) (Ok made) (Err BadField)
+      pub judged : n ≡ length rest → rule_content reads lawful bs ≡ cond (good_rule lawful made) (Ok made) (Err BadField)
       judged k =
           let z = sets_read in
           z ∙ ap (rule_from lawful g d (length rest)) (sym h) ∙ cond-true _ _ _ (eq-eqb n (length rest) k)
           ∙ ap (λ (r : Rule S). cond (good_rule lawful r) (Ok r) (Err BadField)) (sym same)
-
-      pub rule_good : n ≡ length rest → true ≡ good_rule lawful made → Ok made ≡ rule_content reads lawful bs
-      rule_good k q = sym (judged k ∙ cond-true _ _ _ (sym q))
-
-      pub rule_bad : n ≡ length rest → false ≡ good_rule lawful made → Err BadField ≡ rule_content reads lawful bs
-      rule_bad k q = sym (judged k ∙ cond-false _ _ _ (sym q))

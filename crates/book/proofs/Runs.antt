@@ -79,8 +79,8 @@ same_some e = cc
 -- the answer counts what the progress b holds
 pub record Counts {S : Type 0} (o : Opened) (b : Progress S) : Type 0 where
   pub policy_is : Some (code o.policy) ≡ b.policy
-  pub rules_are : o.book.rules ≡ length b.rules
-  pub entries_are : o.book.entries ≡ length b.entries
+  pub rules_are : o.book.rules.count ≡ length b.rules
+  pub entries_are : o.book.entries.count ≡ length b.entries
 
 module _ {S : Type 0} (reads : List ℕ → Reading S) (lawful : S → Bool) (bytes : List ℕ) (rs : List (Rule S)) (es : List Entry) where
   abbrev pub Came : Progress S → Result Opened FileFault → Type 0

@@ -24,7 +24,7 @@ end = 0 ∷ 0 ∷ 4 ∷ 0 ∷ []
 
 -- a book with nothing in it, under the policy with code 2
 abbrev pub nothing_in_it : Opened
-nothing_in_it = record { book = record { rules = 0; entries = 0; few = lit≤ tt; short = lit≤ tt }; policy = Denial }
+nothing_in_it = record { book = record { rules = record { count = 0; within = lit≤ tt }; entries = record { count = 0; within = lit≤ tt } }; policy = Denial }
 
 -- no whole record starts at the place
 abbrev pub no_record_at : ℕ → FileFault

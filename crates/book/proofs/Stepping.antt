@@ -3,6 +3,7 @@ use Rattle.std.proofs.Common.{◌≡◌, ℕ, Bool, List, length, Ok, Err, Resul
 use Rattle.book.specs.declared.faults.At.{At}
 use Rattle.book.specs.declared.faults.BookFault.{BookFault}
 use Rattle.book.specs.declared.faults.FileFault.{FileFault}
+use Rattle.book.specs.declared.faults.Fault.{Fault}
 use Rattle.book.specs.declared.faults.Fault.TheVariants.{Rulebook}
 use Rattle.rules.specs.declared.rule.Rule.{Rule}
 use Rattle.rules.specs.declared.entry.Entry.{Entry}
@@ -15,6 +16,10 @@ use Rattle.book.specs.Contents.{content}
 use Rattle.book.specs.Progress.{Progress, accepts, by_book, by_content, by_cut, verdict, answer, after}
 use Rattle.book.specs.Scans.{progress, Room, Rest}
 use Rattle.book.specs.Steps.{placed_at, left, Stepped}
+
+-- a fault of the file by its parts
+pub fault_is : (y : FileFault) (p : ℕ) (f : Fault) → (y.place ≡ p) × (y.fault ≡ f) → y ≡ record { place = p; fault = f }
+fault_is y p f e = ap (λ n. record { place = n; fault = y.fault }) e.0 ∙ ap (λ g. record { place = p; fault = g }) e.1
 
 pub placed_ok : {X F : Type 0} (p : ℕ) (r : Result X F) (x : X) → Ok x ≡ placed_at p r → Ok x ≡ r
 placed_ok p (Ok y) x e = cc

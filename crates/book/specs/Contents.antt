@@ -11,8 +11,9 @@
 --     rule_from ...                     the rule, once its sets are known and its test was read
 --     said f r                          the answer r, what it says made a content by f
 --     SetSplit bs r                     the 8 bytes of a set at the front of the bytes, and what follows them
-use Rattle.std.specs.Prelude.{◌≡◌, ℕ, ◌-◌, ◌<◌, ◌≤◌, Bool, true, cond, ◌&&◌, List, [], ◌∷◌, length, drop, Ok, Err, Result, MatchResult, ◌==◌, nat_le, slice_index}
+use Rattle.std.specs.Prelude.{◌≡◌, ℕ, ◌-◌, ◌<◌, ◌≤◌, Bool, cond, List, length, drop, Ok, Err, Result, MatchResult, ◌==◌, nat_le, slice_index}
 use Rattle.std.specs.Borrow.{Bor}
+use Rattle.std.specs.List.{list_all}
 use Rattle.sets.specs.declared.set.Set.{Set}
 use Rattle.sets.specs.Bytes.{little}
 use Rattle.sets.specs.Members.{numbered}
@@ -36,8 +37,7 @@ kind_number kinds.Entry = 3
 kind_number kinds.End = 4
 
 abbrev pub all_zero : List ℕ → Bool
-all_zero [] = true
-all_zero (b ∷ bs) = b == 0 && all_zero bs
+all_zero bs = list_all (λ b. b == 0) bs
 
 abbrev pub filler_content : List ℕ → Result (Unit {0}) RecordFault
 filler_content bs = cond (all_zero bs) (Ok tt) (Err BadField)

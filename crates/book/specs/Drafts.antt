@@ -3,7 +3,7 @@
 --     Added good limit xs x before after ys r
 --                                  an add of x, whose fields are good or not, after the first `before` of the memory xs: r is the answer,
 --                                  `after` counts what then stands there, and ys is the memory after it
---     Stored limit xs x before after ys r    the same of fields that are checked already
+--     Stored limit xs x before after ys r    the same of whatever item, with no check of its fields
 use Rattle.std.specs.Prelude.{◌≡◌, ℕ, ◌+◌, Bool, cond, ◌&&◌, List, length, is_ok, Ok, Err, Result, nat_lt, slice_set}
 use Rattle.book.specs.declared.faults.BookFault.{BookFault}
 use Rattle.book.specs.declared.faults.BookFault.TheVariants.{Full}

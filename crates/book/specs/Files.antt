@@ -156,8 +156,8 @@ module _ {S : Type 0} (reads : List ℕ → Reading S) (lawful : S → Bool) (m 
 -- the sealed book counts the rules and entries among the contents, and the policy has the header's code
 pub record Opens {S : Type 0} (o : Opened) (h : Header) (cs : List (Content S)) : Type 0 where
   pub policy_is : code o.policy ≡ h.policy
-  pub rules_are : o.book.rules ≡ length (rules_of cs)
-  pub entries_are : o.book.entries ≡ length (entries_of cs)
+  pub rules_are : o.book.rules.count ≡ length (rules_of cs)
+  pub entries_are : o.book.entries.count ≡ length (entries_of cs)
 
 module _ {S : Type 0} (reads : List ℕ → Reading S) (lawful : S → Bool) (bytes : List ℕ) (rs : List (Rule S)) (es : List Entry) where
   abbrev pub Answer : List (Content S) → Result Opened FileFault → Type 0

@@ -16,14 +16,14 @@ abbrev pub policy_code : Option Shipped → Option ℕ
 policy_code p = option_map code p
 
 abbrev pub progress : {S : Type 0} → Scan → List (Rule S) → List Entry → Progress S
-progress s rs es = record { policy = policy_code s.policy; ended = s.ended; rules = take s.draft.rules rs; entries = take s.draft.entries es }
+progress s rs es = record { policy = policy_code s.policy; ended = s.ended; rules = take s.draft.rules.count rs; entries = take s.draft.entries.count es }
 
 pub record Room {S : Type 0} (s : Scan) (rs : List (Rule S)) (es : List Entry) : Type 0 where
-  pub rules : s.draft.rules ≤ length rs
-  pub entries : s.draft.entries ≤ length es
+  pub rules : s.draft.rules.count ≤ length rs
+  pub entries : s.draft.entries.count ≤ length es
 
 pub record Rest {S : Type 0} (s t : Scan) (rs rs' : List (Rule S)) (es es' : List Entry) : Type 0 where
-  pub more_rules : s.draft.rules ≤ t.draft.rules
-  pub more_entries : s.draft.entries ≤ t.draft.entries
-  pub rules : drop t.draft.rules rs' ≡ drop t.draft.rules rs
-  pub entries : drop t.draft.entries es' ≡ drop t.draft.entries es
+  pub more_rules : s.draft.rules.count ≤ t.draft.rules.count
+  pub more_entries : s.draft.entries.count ≤ t.draft.entries.count
+  pub rules : drop t.draft.rules.count rs' ≡ drop t.draft.rules.count rs
+  pub entries : drop t.draft.entries.count es' ≡ drop t.draft.entries.count es

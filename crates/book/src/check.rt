@@ -1,6 +1,8 @@
-ghost use Rattle.std.specs.Prelude.{◌≡◌};
+ghost use Rattle.std.specs.Prelude.{◌≡◌, if◌then◌else◌, Ok, Err};
 ghost use Rattle.book.specs.Fields.{good_rule, good_entry};
+ghost use Rattle.book.specs.declared.faults.RecordFault.TheVariants.{BadField};
 
+use crate::faults::RecordFault;
 use kinds::Kind;
 use rules::{Entry, Rule};
 
@@ -9,19 +11,30 @@ const LAST_MINUTE: u32 = 4_000_000_000;
 
 const LONGEST: u32 = 100_000_000;
 
-pub(crate) fn is_good_rule<K: Kind>(rule: Rule<K::Test>) -> bool
-    ensures sets_apart_and_test_lawful { result ≡ good_rule K.meaning.lawful_test rule }
+// The rule, if a rulebook may hold it.
+pub(crate) fn checked_rule<K: Kind>(rule: Rule<K::Test>) -> Result<Rule<K::Test>, RecordFault>
+    ensures sets_apart_and_test_lawful { result ≡ (if good_rule K.meaning.lawful_test rule then Ok rule else Err BadField) }
 {
-    rule.grants.is_disjoint(rule.denies) && K::lawful_test(rule.test)
+    if rule.grants.is_disjoint(rule.denies) && K::lawful_test(rule.test) {
+        Ok(rule)
+    } else {
+        Err(RecordFault::BadField)
+    }
 }
 
-pub(crate) fn is_good_entry(entry: Entry) -> bool
-    ensures fields_within_their_bounds { result ≡ good_entry entry }
+// The entry, if a rulebook may hold it.
+pub(crate) fn checked_entry(entry: Entry) -> Result<Entry, RecordFault>
+    ensures fields_within_their_bounds { result ≡ (if good_entry entry then Ok entry else Err BadField) }
 {
-    entry.first <= 63
+    if entry.first <= 63
         && entry.second <= 63
         && entry.first != entry.second
         && entry.start <= LAST_MINUTE
         && entry.duration >= 1
         && entry.duration <= LONGEST
+    {
+        Ok(entry)
+    } else {
+        Err(RecordFault::BadField)
+    }
 }

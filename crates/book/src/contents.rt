@@ -1,7 +1,7 @@
 ghost use Rattle.std.specs.Prelude.{◌≡◌};
 ghost use Rattle.book.specs.Contents.{filler_content, header_content, rule_content, entry_content, end_content, content, SetSplit};
 
-use crate::check::{is_good_entry, is_good_rule};
+use crate::check::{checked_entry, checked_rule};
 use crate::faults::RecordFault;
 use crate::frames::Part;
 use crate::record_kind::RecordKind;
@@ -29,12 +29,11 @@ pub(crate) enum Content<T> {
 fn read_filler(body: &[u8]) -> Result<(), RecordFault>
     ensures accepts_exactly_zeros { result ≡ filler_content body.now }
 {
-    for b in body {
-        if *b != 0 {
-            return Err(RecordFault::BadField);
-        }
+    if body.iter().all(|b| *b == 0) {
+        Ok(())
+    } else {
+        Err(RecordFault::BadField)
     }
-    Ok(())
 }
 
 fn read_header(body: &[u8]) -> Result<Header, RecordFault>
@@ -57,17 +56,12 @@ fn read_entry(body: &[u8]) -> Result<Entry, RecordFault>
     };
     let start = u32::from_le_bytes([*s0, *s1, *s2, *s3]);
     let duration = u32::from_le_bytes([*d0, *d1, *d2, *d3]);
-    let entry = Entry {
+    checked_entry(Entry {
         first: *first,
         second: *second,
         start,
         duration,
-    };
-    if is_good_entry(entry) {
-        Ok(entry)
-    } else {
-        Err(RecordFault::BadField)
-    }
+    })
 }
 
 fn read_end(body: &[u8]) -> Result<(), RecordFault>
@@ -98,16 +92,11 @@ fn read_rule<K: FileKind>(body: &[u8]) -> Result<Rule<K::Test>, RecordFault>
     if used != rest.len() {
         return Err(RecordFault::WrongLength);
     }
-    let rule = Rule {
+    checked_rule::<K>(Rule {
         test,
         grants: Set::from_le_bytes(grants),
         denies: Set::from_le_bytes(denies),
-    };
-    if is_good_rule::<K>(rule) {
-        Ok(rule)
-    } else {
-        Err(RecordFault::BadField)
-    }
+    })
 }
 
 // What the record says, by its kind and body.

@@ -1,4 +1,4 @@
-ghost use Rattle.std.specs.Prelude.{◌≤◌};
+use crate::count::{Count, MOST_ENTRIES, MOST_RULES};
 
 mod add;
 
@@ -6,8 +6,6 @@ mod add;
 // It is moved, not copied, so that it is gone once it is sealed.
 #[derive(Drop)]
 pub struct Draft {
-    rules: usize,
-    entries: usize,
-    ghost few: { rules ≤ 64 },
-    ghost short: { entries ≤ 32 },
+    pub(crate) rules: Count<MOST_RULES>,
+    pub(crate) entries: Count<MOST_ENTRIES>,
 }

@@ -6,6 +6,7 @@ ghost use Rattle.book.specs.declared.faults.Fault.TheVariants.{Frame, Record, Ru
 
 use kinds::TestFault;
 use rules::UnknownCode;
+use std::fmt;
 
 // The bytes hold no whole record.
 #[derive(Clone, Copy)]
@@ -79,35 +80,38 @@ impl From<UnknownCode> for BookFault {
     }
 }
 
-impl From<At<FrameFault>> for FileFault {
-    ghost from_gives = { λ e r. r ≡ record { place = e.place; fault = Frame e.fault } };
+impl From<FrameFault> for Fault {
+    ghost from_gives = { λ e r. r ≡ Frame e };
 
-    fn from(at: At<FrameFault>) -> FileFault {
-        FileFault {
-            place: at.place,
-            fault: Fault::Frame(at.fault),
-        }
+    fn from(fault: FrameFault) -> Fault {
+        Fault::Frame(fault)
     }
 }
 
-impl From<At<RecordFault>> for FileFault {
-    ghost from_gives = { λ e r. r ≡ record { place = e.place; fault = Record e.fault } };
+impl From<RecordFault> for Fault {
+    ghost from_gives = { λ e r. r ≡ Record e };
 
-    fn from(at: At<RecordFault>) -> FileFault {
-        FileFault {
-            place: at.place,
-            fault: Fault::Record(at.fault),
-        }
+    fn from(fault: RecordFault) -> Fault {
+        Fault::Record(fault)
     }
 }
 
-impl From<At<BookFault>> for FileFault {
-    ghost from_gives = { λ e r. r ≡ record { place = e.place; fault = Rulebook e.fault } };
+impl From<BookFault> for Fault {
+    ghost from_gives = { λ e r. r ≡ Rulebook e };
 
-    fn from(at: At<BookFault>) -> FileFault {
+    fn from(fault: BookFault) -> Fault {
+        Fault::Rulebook(fault)
+    }
+}
+
+// A fault of any layer is the file's at the place of its record.
+impl<F: Into<Fault>> From<At<F>> for FileFault {
+    ghost from_gives = { λ e r. (r.place ≡ e.place) × F.converts e.fault r.fault };
+
+    fn from(at: At<F>) -> FileFault {
         FileFault {
             place: at.place,
-            fault: Fault::Rulebook(at.fault),
+            fault: at.fault.into(),
         }
     }
 }
@@ -153,5 +157,24 @@ impl FileFault {
         ensures what_was_found_wrong { result ≡ self.now.fault }
     {
         self.fault
+    }
+}
+
+impl fmt::Display for Layer {
+    fn fmt<W: fmt::Write>(&self, f: &mut fmt::Formatter<W>) -> fmt::Result {
+        f.write_str(match self {
+            Layer::Frame => "frame",
+            Layer::Record => "record",
+            Layer::Rulebook => "rulebook",
+        })
+    }
+}
+
+impl fmt::Display for FileFault {
+    fn fmt<W: fmt::Write>(&self, f: &mut fmt::Formatter<W>) -> fmt::Result {
+        let number = self.fault.number();
+        let layer = self.fault.layer();
+        let place = self.place;
+        write!(f, "{number} ({layer}) at byte {place}")
     }
 }

@@ -14,10 +14,7 @@ use rules::{Entry, Rule};
 fn placed<X, F>(place: usize, answer: Result<X, F>) -> Result<X, At<F>>
     ensures the_fault_with_its_place { result ≡ placed_at place answer }
 {
-    match answer {
-        Ok(x) => Ok(x),
-        Err(fault) => Err(At { place, fault }),
-    }
+    answer.map_err(|fault| At { place, fault })
 }
 
 // Takes the next record.
@@ -51,10 +48,12 @@ pub fn read<K: FileKind>(
         step::<K>(&mut reader, &mut scan, rules, entries)?;
     }
     if reader.place < bytes.len() {
-        return Err(FileFault::from(At {
+        let fault = BookFault::Trailing;
+        return Err(At {
             place: reader.place,
-            fault: BookFault::Trailing,
-        }));
+            fault,
+        }
+        .into());
     }
     Ok(scan.finish())
 }

@@ -3,6 +3,7 @@
 
 mod check;
 mod contents;
+mod count;
 mod draft;
 mod faults;
 mod file;

@@ -1,12 +1,10 @@
-ghost use Rattle.std.specs.Prelude.{◌≤◌};
+use crate::count::{Count, MOST_ENTRIES, MOST_RULES};
 
 mod ask;
 
 // A rulebook that is only read: how many rules and entries stand at the front of the memory that is lent to each call.
 #[derive(Drop)]
 pub struct Sealed {
-    pub(crate) rules: usize,
-    pub(crate) entries: usize,
-    ghost few: { rules ≤ 64 },
-    ghost short: { entries ≤ 32 },
+    pub(crate) rules: Count<MOST_RULES>,
+    pub(crate) entries: Count<MOST_ENTRIES>,
 }

@@ -33,7 +33,7 @@ use Rattle.grader.specs.declared.grader.Grader.{Grader}
 use Rattle.grader.specs.declared.grader.making.Ready.{Ready}
 
 abbrev pub book_of : {V S : Type 0} → Meaning V S → Sealed → List (Rule S) → List Entry → Book V S
-book_of m book rules entries = record { meaning = m; rules = take book.rules rules; entries = take book.entries entries }
+book_of m book rules entries = record { meaning = m; rules = take book.rules.count rules; entries = take book.entries.count entries }
 
 abbrev pub plant : {V S : Type 0} → Book V S → Judge → List V → ℕ → Plant V S
 plant b judge register start = record { book = b; judge = judge; register = register; start = start }

@@ -165,7 +165,7 @@ HoldsCase (senior i j) = Senior small_book i j
 HoldsCase (comparable_only_with_itself i) =
     Senior small_book i i × ((j : ℕ) → Senior small_book i j ⊎ Senior small_book j i → j ≡ i)
 HoldsCase (accepted bytes policy rules entries) =
-    Reads bytes (λ r. (o : Opened) × (r ≡ Ok o) × (code o.policy ≡ policy) × (o.book.rules ≡ rules) × (o.book.entries ≡ entries))
+    Reads bytes (λ r. (o : Opened) × (r ≡ Ok o) × (code o.policy ≡ policy) × (o.book.rules.count ≡ rules) × (o.book.entries.count ≡ entries))
 HoldsCase (refused bytes n place) = Reads bytes (λ r. (f : FileFault) × (r ≡ Err f) × (number_of f.fault ≡ n) × (f.place ≡ place))
 
 abbrev pub WorkedCases : Type 0

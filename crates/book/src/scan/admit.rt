@@ -17,8 +17,8 @@ impl Scan {
     pub(crate) fn new() -> Scan
         ensures no_policy { result.policy ≡ None }
         ensures not_ended { result.ended ≡ false }
-        ensures no_rule { result.draft.rules ≡ 0 }
-        ensures no_entry { result.draft.entries ≡ 0 }
+        ensures no_rule { result.draft.rules.count ≡ 0 }
+        ensures no_entry { result.draft.entries.count ≡ 0 }
     {
         Scan {
             policy: None,
@@ -45,11 +45,11 @@ impl Scan {
             Content::Filler => self.has_begun(),
             Content::NewRule(rule) => {
                 self.has_begun()?;
-                self.draft.store_rule(rules, rule)
+                self.draft.rules.store(rules, rule)
             }
             Content::NewEntry(entry) => {
                 self.has_begun()?;
-                self.draft.store_entry(entries, entry)
+                self.draft.entries.store(entries, entry)
             }
             Content::End => {
                 self.has_begun()?;

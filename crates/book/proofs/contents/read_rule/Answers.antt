@@ -1,5 +1,6 @@
+use Rattle.std.proofs.Common.{sym, ◌∙◌}
 use Rattle.std.proofs.lemmas.Result.{err_from_is_err_and}
-use Rattle.book.proofs.RuleReading.{test_refused, test_loose, rule_good, rule_bad}
+use Rattle.book.proofs.RuleReading.{test_refused, test_loose, judged}
 use Rattle.book.proofs.contents.read_rule.Goals as goal
 
 pub returns-in_err-test : goal.returns-in_err-test
@@ -16,14 +17,9 @@ returns-then-used-rest g c = record {
       test_loose g.K.FileKind.reads g.K.Kind.meaning.lawful_test _ _ _ c.in_ok-grants.grants c.in_ok-denies.denies c.in_ok-grants.ensures.set_and_what_follows c.in_ok-denies.ensures.set_and_what_follows _ _ c.in_ok-test.ensures.the_bytes_alone_fix_the_answer c.if-used-rest.true;
 }
 
-pub returns-then-is_good_rule : goal.returns-then-is_good_rule
-returns-then-is_good_rule g c = record {
+pub returns : goal.returns
+returns g c = record {
   sets_and_a_test_that_ends_the_body =
-      rule_good g.K.FileKind.reads g.K.Kind.meaning.lawful_test _ _ _ c.in_ok-grants.grants c.in_ok-denies.denies c.in_ok-grants.ensures.set_and_what_follows c.in_ok-denies.ensures.set_and_what_follows _ _ c.in_ok-test.ensures.the_bytes_alone_fix_the_answer _ _ c.from_le_bytes.ensures.is_the_set_of_that_number c.from_le_bytes-2.ensures.is_the_set_of_that_number c.if-used-rest.false c.if-is_good_rule.ensures.sets_apart_and_test_lawful;
-}
-
-pub returns-else-is_good_rule : goal.returns-else-is_good_rule
-returns-else-is_good_rule g c = record {
-  sets_and_a_test_that_ends_the_body =
-      rule_bad g.K.FileKind.reads g.K.Kind.meaning.lawful_test _ _ _ c.in_ok-grants.grants c.in_ok-denies.denies c.in_ok-grants.ensures.set_and_what_follows c.in_ok-denies.ensures.set_and_what_follows _ _ c.in_ok-test.ensures.the_bytes_alone_fix_the_answer _ _ c.from_le_bytes.ensures.is_the_set_of_that_number c.from_le_bytes-2.ensures.is_the_set_of_that_number c.if-used-rest.false c.if-is_good_rule.ensures.sets_apart_and_test_lawful;
+      c.checked_rule.ensures.sets_apart_and_test_lawful
+      ∙ sym (judged g.K.FileKind.reads g.K.Kind.meaning.lawful_test _ _ _ c.in_ok-grants.grants c.in_ok-denies.denies c.in_ok-grants.ensures.set_and_what_follows c.in_ok-denies.ensures.set_and_what_follows _ _ c.in_ok-test.ensures.the_bytes_alone_fix_the_answer _ _ c.from_le_bytes.ensures.is_the_set_of_that_number c.from_le_bytes-2.ensures.is_the_set_of_that_number c.if-used-rest.false);
 }
