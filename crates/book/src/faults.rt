@@ -1,5 +1,5 @@
-ghost use Rattle.std.specs.Prelude.{◌≡◌};
-ghost use Rattle.book.specs.Faults.{number_of, layer_of};
+ghost use Rattle.std.specs.Prelude.{◌≡◌, Some};
+ghost use Rattle.book.specs.Faults.{number_of, layer_of, layer_name, refusal_text};
 ghost use Rattle.book.specs.declared.faults.RecordFault.TheVariants.{Test};
 ghost use Rattle.book.specs.declared.faults.BookFault.TheVariants.{HeaderUnknown};
 ghost use Rattle.book.specs.declared.faults.Fault.TheVariants.{Frame, Record, Rulebook};
@@ -161,6 +161,8 @@ impl FileFault {
 }
 
 impl fmt::Display for Layer {
+    ghost output = { λ layer. Some (layer_name layer) };
+
     fn fmt<W: fmt::Write>(&self, f: &mut fmt::Formatter<W>) -> fmt::Result {
         f.write_str(match self {
             Layer::Frame => "frame",
@@ -171,6 +173,8 @@ impl fmt::Display for Layer {
 }
 
 impl fmt::Display for FileFault {
+    ghost output = { λ fault. Some (refusal_text fault) };
+
     fn fmt<W: fmt::Write>(&self, f: &mut fmt::Formatter<W>) -> fmt::Result {
         let number = self.fault.number();
         let layer = self.fault.layer();

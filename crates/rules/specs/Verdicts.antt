@@ -5,7 +5,8 @@
 --                                        the verdict names the lowest of the denying rules met
 --     judge_of policy                    what the shipped policy says
 --     code policy                        the shipped policy's code in a rulebook file
-use Rattle.std.specs.Prelude.{◌≡◌, ℕ, ◌<◌, Bool, true, false, Ok, Err, Result}
+--     policy_name policy                 its name in words
+use Rattle.std.specs.Prelude.{◌≡◌, ℕ, ◌<◌, Bool, true, false, Ok, Err, Result, List, codes}
 use Rattle.sets.specs.Members.{member, LowestFrom}
 use Rattle.rules.specs.declared.claim.Claim.{Claim}
 use Rattle.rules.specs.declared.claim.Objection.{Objection}
@@ -38,3 +39,8 @@ abbrev pub code : Shipped → ℕ
 code Permission = 1
 code Denial = 2
 code LocalDenial = 3
+
+abbrev pub policy_name : Shipped → List ℕ
+policy_name Permission = codes "permission"
+policy_name Denial = codes "denial"
+policy_name LocalDenial = codes "local denial"

@@ -1,5 +1,5 @@
-ghost use Rattle.std.specs.Prelude.{◌≡◌, MatchResult, ◌≢◌};
-ghost use Rattle.rules.specs.Verdicts.{code, judge_of};
+ghost use Rattle.std.specs.Prelude.{◌≡◌, MatchResult, ◌≢◌, Some};
+ghost use Rattle.rules.specs.Verdicts.{code, judge_of, policy_name};
 ghost use Rattle.rules.specs.declared.shipped.Shipped.{Shipped};
 ghost use Rattle.rules.specs.declared.shipped.Shipped.TheVariants.{Permission, Denial, LocalDenial};
 ghost use Rattle.rules.specs.PolicyLaws.{permission_no, denial_no, local_no, permission_yes, denial_yes, local_yes, permission_stays, denial_stays, local_stays};
@@ -54,6 +54,8 @@ impl TryFrom<u16> for Shipped {
 }
 
 impl fmt::Display for Shipped {
+    ghost output = { λ p. Some (policy_name p) };
+
     fn fmt<W: fmt::Write>(&self, f: &mut fmt::Formatter<W>) -> fmt::Result {
         f.write_str(match self {
             Shipped::Permission => "permission",
