@@ -8,7 +8,7 @@ use crate::kind::Kind;
 use sets::Set;
 
 // Certificates out of 64. A test is a set of them, met by whoever holds them all.
-pub struct Certificates {}
+pub struct Certificates;
 
 impl Kind for Certificates {
     type Value = Set;

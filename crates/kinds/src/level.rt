@@ -6,7 +6,7 @@ use crate::file_kind::{FileKind, TestFault};
 use crate::kind::Kind;
 
 // A level from 0 to 65,535. A test is a level, met by that one and all above it.
-pub struct Level {}
+pub struct Level;
 
 impl Kind for Level {
     type Value = u16;

@@ -8,7 +8,7 @@ use crate::kind::Kind;
 use sets::Set;
 
 // A site from 0 to 63. A test is a set of sites that is not empty, met by its members.
-pub struct Site {}
+pub struct Site;
 
 impl Kind for Site {
     type Value = u8;

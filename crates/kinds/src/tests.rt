@@ -7,7 +7,7 @@ use crate::level::Level;
 use crate::pair::Pair;
 
 // Years in service; a test is met by at most so many.
-struct AtMost {}
+struct AtMost;
 
 impl Kind for AtMost {
     type Value = u8;

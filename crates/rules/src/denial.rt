@@ -7,7 +7,7 @@ use sets::Set;
 
 // One denying rule is enough to refuse.
 #[derive(Clone, Copy)]
-pub struct Denial {}
+pub struct Denial;
 
 impl Policy for Denial {
     ghost judge = { λ _. denial };

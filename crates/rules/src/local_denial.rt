@@ -10,7 +10,7 @@ use sets::Set;
 
 // A denying rule refuses only the granting rules with which it is comparable.
 #[derive(Clone, Copy)]
-pub struct LocalDenial {}
+pub struct LocalDenial;
 
 impl Policy for LocalDenial {
     ghost judge = { λ _. local_denial };

@@ -7,7 +7,7 @@ use sets::Set;
 
 // One granting rule is enough, whatever denies.
 #[derive(Clone, Copy)]
-pub struct Permission {}
+pub struct Permission;
 
 impl Policy for Permission {
     ghost judge = { λ _. permission };

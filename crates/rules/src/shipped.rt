@@ -80,9 +80,9 @@ impl Policy for Shipped {
 
     fn says(&self, granting: Set, denying: Set, senior: &Seniority) -> bool {
         match *self {
-            Shipped::Permission => (Permission {}).says(granting, denying, senior),
-            Shipped::Denial => (Denial {}).says(granting, denying, senior),
-            Shipped::LocalDenial => (LocalDenial {}).says(granting, denying, senior),
+            Shipped::Permission => Permission.says(granting, denying, senior),
+            Shipped::Denial => Denial.says(granting, denying, senior),
+            Shipped::LocalDenial => LocalDenial.says(granting, denying, senior),
         }
     }
 }
