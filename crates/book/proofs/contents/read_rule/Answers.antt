@@ -21,5 +21,5 @@ pub returns : goal.returns
 returns g c = record {
   sets_and_a_test_that_ends_the_body =
       c.checked_rule.ensures.sets_apart_and_test_lawful
-      ∙ sym (judged g.K.FileKind.reads g.K.Kind.meaning.lawful_test _ _ _ c.in_ok-grants.grants c.in_ok-denies.denies c.in_ok-grants.ensures.set_and_what_follows c.in_ok-denies.ensures.set_and_what_follows _ _ c.in_ok-test.ensures.the_bytes_alone_fix_the_answer _ _ c.from_le_bytes.ensures.is_the_set_of_that_number c.from_le_bytes-2.ensures.is_the_set_of_that_number c.if-used-rest.false);
+      ∙ sym (judged g.K.FileKind.reads g.K.Kind.meaning.lawful_test _ _ _ c.in_ok-grants.grants c.in_ok-denies.denies c.in_ok-grants.ensures.set_and_what_follows c.in_ok-denies.ensures.set_and_what_follows _ _ c.in_ok-test.ensures.the_bytes_alone_fix_the_answer c.if-used-rest.false);
 }
