@@ -1,6 +1,5 @@
 -- The record at the front of the bytes.
-use Rattle.std.proofs.Common.{◌≡◌, ℕ, ◌+◌, ◌-◌, ◌<◌, ◌≤◌, List, length, take, drop, Ok, Err, arith, rules}
-use Rattle.std.proofs.lemmas.List.{take_rest}
+use Rattle.std.proofs.Common.{◌≡◌, ℕ, ◌+◌, ◌<◌, ◌≤◌, List, length, take, drop, Ok, Err, rules}
 use Rattle.sets.specs.Bytes.{little}
 use Rattle.book.specs.declared.faults.FrameFault.TheVariants.{RecordCut, BodyCut}
 use Rattle.book.specs.Frames.{cut, piece_at}
@@ -17,7 +16,3 @@ cut_piece p bs h k = search rules
 -- the record that is cut, by its parts
 pub cut_is : (p kind : ℕ) (body bs : List ℕ) → 4 ≤ length bs → 4 + little 2 bs ≤ length bs → kind ≡ little 2 (drop 2 bs) → body ≡ take (little 2 bs) (drop 4 bs) → Ok (record { place = p; kind = kind; body = body }) ≡ cut p bs
 cut_is p kind body bs h k e d = let z = cut_piece p bs h k in cc
-
--- a part of a part, as the checker reads `&rest[0..n]`
-pub body_is : (n m : ℕ) (bs : List ℕ) → n ≡ m → take (n - 0) (take (length bs - 4) (drop 4 bs)) ≡ take m (drop 4 bs)
-body_is n m bs e = let z : n - 0 ≡ m = omega arith in rw (take_rest bs 4, z)

@@ -1,6 +1,4 @@
 pub mod FrameLaws
-pub mod RuleReading
-pub mod Admitting
 pub mod Runs
 pub mod Filing
 pub mod Stepping

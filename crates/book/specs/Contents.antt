@@ -10,7 +10,7 @@
 --     entry_at bs                       the entry in the bytes, whatever its fields
 --     rule_from ...                     the rule, once its sets are known and its test was read
 --     said f r                          the answer r, what it says made a content by f
---     SetSplit bs r                     the 8 bytes of a set at the front of the bytes, and what follows them
+--     SetSplit bs r                     the set in the 8 bytes at the front, and what follows them
 use Rattle.std.specs.Prelude.{◌≡◌, ℕ, ◌-◌, ◌<◌, ◌≤◌, Bool, cond, List, length, drop, Ok, Err, Result, MatchResult, ◌==◌, nat_le, slice_index}
 use Rattle.std.specs.Borrow.{Bor}
 use Rattle.std.specs.List.{list_all}
@@ -54,10 +54,10 @@ entry_content bs = cond (length bs == 10) (cond (good_entry (entry_at bs)) (Ok (
 abbrev pub end_content : List ℕ → Result (Unit {0}) RecordFault
 end_content bs = cond (length bs == 0) (Ok tt) (Err WrongLength)
 
-abbrev pub SetSplit : List ℕ → Result (List ℕ × Bor (List ℕ)) RecordFault → Type 0
+abbrev pub SetSplit : List ℕ → Result (Set × Bor (List ℕ)) RecordFault → Type 0
 SetSplit bs r =
     MatchResult r
-    (λ x. (8 ≤ length bs) × (little 8 x.0 ≡ little 8 bs) × (x.1.now ≡ drop 8 bs))
+    (λ x. (8 ≤ length bs) × (x.0 ≡ numbered (little 8 bs)) × (x.1.now ≡ drop 8 bs))
     (λ e. (length bs < 8) × (e ≡ WrongLength))
 
 -- the rule, once its sets are known and its test was read from the n bytes after them

@@ -73,14 +73,15 @@ fn read_end(body: &[u8]) -> Result<(), RecordFault>
     }
 }
 
-// The 8 bytes of a set, and what follows them.
-fn split_set<'a>(bytes: &'a [u8]) -> Result<([u8; 8], &'a [u8]), RecordFault>
+// A set, and what follows it.
+fn split_set<'a>(bytes: &'a [u8]) -> Result<(Set, &'a [u8]), RecordFault>
     ensures set_and_what_follows { SetSplit bytes.now result }
 {
     let [b0, b1, b2, b3, b4, b5, b6, b7, rest @ ..] = bytes else {
         return Err(RecordFault::WrongLength);
     };
-    Ok(([*b0, *b1, *b2, *b3, *b4, *b5, *b6, *b7], rest))
+    let set = Set::from_le_bytes([*b0, *b1, *b2, *b3, *b4, *b5, *b6, *b7]);
+    Ok((set, rest))
 }
 
 fn read_rule<K: FileKind>(body: &[u8]) -> Result<Rule<K::Test>, RecordFault>
@@ -94,8 +95,8 @@ fn read_rule<K: FileKind>(body: &[u8]) -> Result<Rule<K::Test>, RecordFault>
     }
     checked_rule::<K>(Rule {
         test,
-        grants: Set::from_le_bytes(grants),
-        denies: Set::from_le_bytes(denies),
+        grants,
+        denies,
     })
 }
 

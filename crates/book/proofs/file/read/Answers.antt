@@ -1,4 +1,4 @@
-use Rattle.std.proofs.Common.{◌<◌, length, Ok, ap, ◌∙◌, arith, rules}
+use Rattle.std.proofs.Common.{length, Ok, ap, arith, rules}
 use Rattle.std.proofs.lemmas.Result.{err_from_is_err_and}
 use Rattle.book.specs.declared.count.Count.{Count}
 use Rattle.book.specs.declared.faults.BookFault.TheVariants.{Trailing}
@@ -12,22 +12,10 @@ use Rattle.book.proofs.file.read.Goals as goal
 pub loop-scan-init : goal.loop-scan-init
 loop-scan-init g c = at_start g.K.FileKind.reads g.K.Kind.meaning.lawful_test c.args.bytes.now c.new-reader.result c.new-scan.result c.args.rules.now c.args.entries.now c.new-reader.ensures.over_the_bytes c.new-reader.ensures.at_the_start c.new-scan.ensures.no_policy c.new-scan.ensures.not_ended c.new-scan.ensures.no_rule c.new-scan.ensures.no_entry
 
-pub step-requires : goal.step-requires
-step-requires g c = c.loop-scan.invariant.room
-
 pub loop-scan-preserved : goal.loop-scan-preserved
 loop-scan-preserved g c =
     (goes_on g.K.FileKind.reads g.K.Kind.meaning.lawful_test c.args.bytes.now c.loop-scan.reader c.step.new.reader c.loop-scan.scan c.step.new.scan c.args.rules.now c.loop-scan.rules c.step.new.rules c.args.entries.now c.loop-scan.entries c.step.new.entries c.in_ok-step.field-0
     c.loop-scan-test.true (search rules) (search rules) c.loop-scan.invariant c.in_ok-step.ensures.record_taken_or_refused).0
-
-pub loop-scan-smaller : goal.loop-scan-smaller
-loop-scan-smaller g c =
-    let m : c.loop-scan.reader.place < c.step.new.reader.place =
-    (goes_on g.K.FileKind.reads g.K.Kind.meaning.lawful_test c.args.bytes.now c.loop-scan.reader c.step.new.reader c.loop-scan.scan c.step.new.scan c.args.rules.now c.loop-scan.rules c.step.new.rules c.args.entries.now c.loop-scan.entries c.step.new.entries c.in_ok-step.field-0
-    c.loop-scan-test.true (search rules) (search rules) c.loop-scan.invariant c.in_ok-step.ensures.record_taken_or_refused).1 in
-    let l = ap length (c.step.ensures.record_taken_or_refused.bytes ∙ c.loop-scan.invariant.same) in
-    let w = c.step.new.reader.within in
-    omega (arith, m, l, w)
 
 pub returns-in_err-step : goal.returns-in_err-step
 returns-in_err-step g c =
