@@ -1,14 +1,8 @@
 -- What stands at a place of the loans, and what a sweep over them keeps.
-use Rattle.std.proofs.Common.{◌≡◌, ℕ, ◌+◌, ◌<◌, ◌≤◌, List, [], ◌∷◌, ◌++◌, length, get_or, take, drop, set, Some, sym, refl, ap, ◌∙◌, subst, arith, length-set}
-use Rattle.std.specs.List.{slice_get}
+use Rattle.std.proofs.Common.{◌≡◌, ℕ, ◌+◌, ◌<◌, ◌≤◌, List, [], ◌∷◌, ◌++◌, length, get_or, take, drop, set, sym, refl, ap, ◌∙◌, subst, arith, length-set}
 use Rattle.std.proofs.lemmas.List.{take_more, take_more_set, drop-set-lt, drop-drop, get_or-drop}
-use Rattle.std.proofs.lemmas.Option.{slice_get-get_or}
 use Rattle.tables.specs.Loans.{Filtered}
 use Rattle.tables.specs.Loans.Filtered.{none, kept, left}
-
--- an element that is read from a list that is another one
-pub read_at : {X : Type 0} (xs ys : List X) (i : ℕ) (d : X) → xs ≡ ys → i < length xs → slice_get ys i ≡ Some (get_or xs i d)
-read_at xs ys i d e lt = ap (λ zs. slice_get zs i) (sym e) ∙ slice_get-get_or xs i d lt
 
 -- one more at the end, kept or left
 pub filtered_kept : {X : Type 0} {P : X → Type 0} {xs ys : List X} (x : X) → Filtered P xs ys → P x → Filtered P (xs ++ x ∷ []) (ys ++ x ∷ [])
@@ -27,12 +21,6 @@ filtered_twice P Q none none = none
 filtered_twice P Q (kept p f) (kept q h) = kept (p, q) (filtered_twice P Q f h)
 filtered_twice P Q (kept p f) (left q h) = left (λ w. q w.1) (filtered_twice P Q f h)
 filtered_twice P Q (left p f) h = left (λ w. p w.0) (filtered_twice P Q f h)
-
--- the same sweep, of which the test is said otherwise
-pub filtered_like : {X : Type 0} (P Q : X → Type 0) → ((x : X) → P x → Q x) → ((x : X) → Q x → P x) → {xs ys : List X} → Filtered P xs ys → Filtered Q xs ys
-filtered_like P Q there back none = none
-filtered_like P Q there back (kept p f) = kept (there _ p) (filtered_like P Q there back f)
-filtered_like P Q there back (left p f) = left (λ q. p (back _ q)) (filtered_like P Q there back f)
 
 -- a sweep in place: of the first i of the loans before it, those of which P holds stand in the first k places, and what
 -- comes after i is as it was

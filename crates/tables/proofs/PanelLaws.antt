@@ -1,18 +1,36 @@
 -- What trimming makes of one panel, and of the panels one after another.
-use Rattle.std.proofs.Common.{◌≡◌, ℕ, ◌+◌, ◌<◌, ◌≤◌, true, ◌⊎◌, List, length, get_or, set, None, Decides, Option, sym, refl, ap, ◌∙◌, subst, ⊎_elim, arith, length-set}
+use Rattle.std.proofs.Common.{◌≡◌, ℕ, ◌+◌, ◌<◌, ◌≤◌, true, ◌&&◌, ◌||◌, eqb, ltb, List, length, get_or, set, Some, None, Decides, Option, sym, refl, ap, ◌∙◌, subst, ⊎_elim, arith, length-set}
 use Rattle.std.specs.List.{slice_get}
 use Rattle.std.proofs.lemmas.Option.{slice_get-get_or, slice_get_past}
 use Rattle.std.proofs.lemmas.Bool.{both_ways, cases_eq, cases_lt}
+use Rattle.std.proofs.lemmas.Bool.Decides.{Decides-like}
+use Rattle.sets.specs.declared.set.Set.{Set}
+use Rattle.sets.specs.declared.set.members.Members.{Members}
+use Rattle.sets.specs.Members.{member, LowestFrom}
+use Rattle.sets.specs.Readout.{ReadOut}
+use Rattle.sets.proofs.Gathering.{Gathered, gathered_with}
+use Rattle.sets.proofs.MemberLaws.{member_below}
 use Rattle.rules.proofs.Places.{found_set, found_other}
-use Rattle.tables.specs.declared.loan.Loan.{Loan}
 use Rattle.tables.specs.declared.seat.Seat.{Seat}
-use Rattle.tables.specs.Loans.{OnLoan}
 use Rattle.tables.specs.Panels.{seated, person_of, active_of, seat_at, HasGrounds, Trimmed}
-use Rattle.tables.specs.Settings.{Setting, ByRules}
 
--- what entitles: the rules, or a loan
-abbrev pub Grounds : {V S : Type 0} → Setting V S → List Loan → ℕ → ℕ → Type 0
-Grounds s loans person role = ByRules s person role ⊎ OnLoan loans person role
+-- a loop that reads the members of a set out, and takes in those of which P holds
+module _ (P : ℕ → Type 0) (roles : Set) (m : Members) (g : Gathered P m.from roles) where
+  -- no role is between where the members are read from and the next of them
+  gathered_up_to : (i : ℕ) → ((k : ℕ) → P k → member m.set k ≡ true) → LowestFrom m.set m.from i → Gathered P i roles
+  gathered_up_to i among low k =
+      let reached = low.reached in
+      Decides-like (member roles k)
+      (λ p. (let lt = p.0 in omega arith, p.1))
+      (λ p. (⊎_elim (λ lt. lt) (λ ge. absurd (both_ways (member m.set k) (low.none_lower k ge p.0) (among k p.1))) (cases_lt k m.from), p.1))
+      (g k)
+
+  -- the next role is read out, and taken in
+  pub taken_in : (n : Members) (i : ℕ) (more : Set) → ReadOut m (Some i) n → ((k : ℕ) → P k → member m.set k ≡ true) → (member m.set i ≡ true → P i) → ((k : ℕ) → member more k ≡ (member roles k || (eqb k i && ltb k 64))) → Gathered P n.from more
+  taken_in n i more read among here with-is =
+      let held = read.0.held in
+      subst (λ x. Gathered P x.from more) (sym read.1)
+      (gathered_with P i roles more more refl (member_below m.set i held) (here held) with-is (gathered_up_to i among read.0))
 
 module _ (G : ℕ → ℕ → Type 0) where
   pub record TrimmedSeat (old new : Option Seat) : Type 0 where
@@ -28,9 +46,6 @@ module _ (G : ℕ → ℕ → Type 0) where
     pub long : length new ≡ length old
     pub done : (at : ℕ) → at < i → TrimmedSeat (seat_at old at) (seat_at new at)
     pub rest : (at : ℕ) → i ≤ at → slice_get new at ≡ slice_get old at
-
-  pub trimmed_none : (seats : List (Option Seat)) → TrimmedTo 0 seats seats
-  trimmed_none seats = record { long = refl; done = λ at lt. absurd (let z : ⊥ = omega arith in z); rest = λ at _. refl }
 
   pub trimmed_more : (i : ℕ) (old xs : List (Option Seat)) (d new : Option Seat) → i < length old → TrimmedSeat (get_or xs i d) new → TrimmedTo i old xs → TrimmedTo (i + 1) old (set xs i new)
   trimmed_more i old xs d new lt one t =

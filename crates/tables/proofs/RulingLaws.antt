@@ -1,17 +1,17 @@
 -- From the sets that code gathers of a person to the words.
-use Rattle.std.proofs.Common.{◌≡◌, ℕ, ◌≤◌, true, false, length, Some, None, Decides, Option, Ok, Err, subst, ⊎_elim, zero-le, arith, MatchOption}
+use Rattle.std.proofs.Common.{◌≡◌, ℕ, true, false, Some, None, Decides, Option, Ok, Err, subst, ⊎_elim, zero-le, MatchOption}
 use Rattle.std.specs.List.{slice_get}
 use Rattle.std.proofs.lemmas.Bool.{both_ways, cases_Bool}
 use Rattle.std.proofs.lemmas.Bool.Decides.{Decides-like, not_from_Decides}
 use Rattle.sets.specs.declared.set.Set.{Set}
 use Rattle.sets.specs.Members.{member, empty, LowestFrom, EmptyFrom}
 use Rattle.sets.proofs.MemberLaws.{empty_decides, some_member}
-use Rattle.sets.proofs.Gathering.{Holds, holds_none}
+use Rattle.sets.proofs.Gathering.{Holds}
 use Rattle.rules.specs.declared.claim.Objection.TheVariants.{NothingGrants, Denied}
 use Rattle.rules.specs.Policies.{NothingGrantingIsNo}
-use Rattle.rules.specs.Rules.{Meets, Grants, Denies, Granting, Denying}
+use Rattle.rules.specs.Rules.{Grants, Denies, Granting, Denying}
 use Rattle.rules.specs.Verdicts.{Verdict, Judged}
-use Rattle.rules.proofs.Places.{found_within, found_one}
+use Rattle.rules.proofs.Places.{found_one}
 use Rattle.rules.proofs.VerdictLaws.{same_holds}
 use Rattle.tables.specs.Settings.{Setting, MetBy, GrantedBy, DeniedBy, ByRules}
 use Rattle.tables.specs.Verdicts.{Decided, Lowest}
@@ -28,20 +28,6 @@ first_held P set held None none = λ i p. both_ways (member set i) (none i zero-
 first_held P set held (Some i) low = lowest_held P set held i low
 
 module _ {V S : Type 0} (s : Setting V S) where
-  -- there is no such person
-  pub met_none : (person : ℕ) (set : Set) → length s.records ≤ person → ((k : ℕ) → member set k ≡ false) → Holds (MetBy s person) set
-  met_none person set past none =
-      holds_none (MetBy s person) set none (λ i w. let lt = found_within s.records person w.value w.on_record in let z : ⊥ = omega arith in z)
-
-  one_value : (person : ℕ) (v w : V) → slice_get s.records person ≡ Some v → slice_get s.records person ≡ Some w → v ≡ w
-  one_value person v w = found_one s.records person v w
-
-  pub met_some : (person : ℕ) (v : V) (set : Set) → slice_get s.records person ≡ Some v → Holds (Meets s.book v) set → Holds (MetBy s person) set
-  met_some person v set found held i = Decides-like (member set i)
-      (λ met. record { value = v; on_record = found; meets = met })
-      (λ w. subst (λ x. Meets s.book x i) (one_value person w.value v w.on_record found) w.meets)
-      (held i)
-
   module _ (person role : ℕ) (met : Set) (met_are : Holds (MetBy s person) met) where
     pub granted_are : (p : Set) → Holds (λ i. (member met i ≡ true) × Grants s.book role s.minute i) p → Holds (GrantedBy s person role) p
     granted_are p held i = Decides-like (member p i)
@@ -58,13 +44,13 @@ module _ {V S : Type 0} (s : Setting V S) where
   module _ (person role : ℕ) (p n : Set) (p_are : Holds (GrantedBy s person role) p) (n_are : Holds (DeniedBy s person role) n) where
     granting_of : (v : V) → slice_get s.records person ≡ Some v → Holds (Granting s.book v role s.minute) p
     granting_of v found i = Decides-like (member p i)
-        (λ g. subst (λ x. Granting s.book x role s.minute i) (one_value person g.value v g.on_record found) g.granting)
+        (λ g. subst (λ x. Granting s.book x role s.minute i) (found_one s.records person g.value v g.on_record found) g.granting)
         (λ g. record { value = v; on_record = found; granting = g })
         (p_are i)
 
     denying_of : (v : V) → slice_get s.records person ≡ Some v → Holds (Denying s.book v role) n
     denying_of v found i = Decides-like (member n i)
-        (λ g. subst (λ x. Denying s.book x role i) (one_value person g.value v g.on_record found) g.denying)
+        (λ g. subst (λ x. Denying s.book x role i) (found_one s.records person g.value v g.on_record found) g.denying)
         (λ g. record { value = v; on_record = found; denying = g })
         (n_are i)
 

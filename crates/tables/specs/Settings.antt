@@ -1,11 +1,12 @@
 -- SETTINGS: who is entitled by rules, and which loans may stand, given records and a minute.
---     Setting                     a rulebook, a policy, a table of seniority, the records of the persons and the minute
---     MetBy s person i            the person meets rule i
---     ByRules s person role       the person is entitled by rules
---     GrantedBy s person role i   rule i is among the granting rules that the person meets
---     DeniedBy s person role i    rule i is among the denying rules that the person meets
---     MayStand s loan             the loan is not due, its lender is entitled by rules, and its borrower meets no denying rule
-use Rattle.std.specs.Prelude.{◌≡◌, ℕ, ◌<◌, List, Some}
+--     Setting                        a rulebook, a policy, a table of seniority, the records of the persons and the minute
+--     MetBy s person i               the person meets rule i
+--     ByRules s person role          the person is entitled by rules
+--     GrantedBy s person role i      rule i is among the granting rules that the person meets
+--     DeniedBy s person role i       rule i is among the denying rules that the person meets
+--     Grounds s loans person role    the person is entitled to the role by rules, or one of the loans is of it to that person
+--     MayStand s loan                the loan is not due, its lender is entitled by rules, and its borrower meets no denying rule
+use Rattle.std.specs.Prelude.{◌≡◌, ℕ, ◌<◌, ◌⊎◌, List, Some}
 use Rattle.std.specs.List.{slice_get}
 use Rattle.kinds.specs.Kinds.{Meaning}
 use Rattle.kinds.specs.declared.kind.Kind.{Ghosts}
@@ -14,6 +15,7 @@ use Rattle.rules.specs.Policies.{Judge}
 use Rattle.rules.specs.Rules.{Book, Meets, Granting, Denying, AllowedBy, seen}
 use Rattle.tables.specs.declared.loan.Loan.{Loan}
 use Rattle.tables.specs.declared.ruling.Ruling.{Ruling}
+use Rattle.tables.specs.Loans.{OnLoan}
 
 pub record Setting (V S : Type 0) : Type 0 where
   pub book : Book V S
@@ -46,6 +48,9 @@ module _ {V S : Type 0} (s : Setting V S) where
     pub value : V
     pub on_record : slice_get s.records person ≡ Some value
     pub denying : Denying s.book value role i
+
+  abbrev pub Grounds : List Loan → ℕ → ℕ → Type 0
+  Grounds loans person role = ByRules person role ⊎ OnLoan loans person role
 
   pub record MayStand (loan : Loan) : Type 0 where
     pub not_due : s.minute < loan.due

@@ -3,7 +3,7 @@ ghost use Rattle.tables.specs.declared.loan.Loan.{Loan as AnyLoan};
 
 use crate::loan::Loan;
 
-// Which loans stay.
+// Which loans stay. A trait, since a closure would put a `requires` on `retain`: that it may be called.
 pub trait Keep {
     ghost passes: { Self → AnyLoan → Type 0 };
 

@@ -4,6 +4,7 @@
 mod keep;
 mod loan;
 mod loans;
+mod loans_full;
 mod panels;
 mod recalled;
 mod ruling;
@@ -12,6 +13,7 @@ mod seat;
 pub use keep::Keep;
 pub use loan::Loan;
 pub use loans::Loans;
+pub use loans_full::LoansFull;
 pub use panels::Panels;
 pub use recalled::Recalled;
 pub use ruling::Ruling;

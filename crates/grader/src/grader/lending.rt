@@ -36,7 +36,7 @@ impl<P: Policy> Grader<P> {
             &senior, book, rules, entries, register, panel, borrower, role, minutes,
         )?;
         // There is room: that was the last check.
-        self.loans.add(Loan {
+        let _ = self.loans.add(Loan {
             lender,
             borrower,
             role,

@@ -18,7 +18,7 @@ impl Loans {
     pub fn standing(&self) -> &[Loan]
         ensures those_that_stand { result.now ≡ standing self.now }
     {
-        &self.items[0..self.count]
+        &self.items[..self.count]
     }
 
     // Whether thirty-two stand.
@@ -32,11 +32,6 @@ impl Loans {
     pub fn has(&self, person: u16, role: u8) -> bool
         ensures tells_whether_such_a_loan_stands { Decides result (OnLoan (standing self.now) person role) }
     {
-        for loan in self.standing() {
-            if loan.is_of(person, role) {
-                return true;
-            }
-        }
-        false
+        self.standing().iter().any(|loan| loan.is_of(person, role))
     }
 }

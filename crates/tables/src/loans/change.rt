@@ -1,9 +1,10 @@
-ghost use Rattle.std.specs.Prelude.{◌≡◌, ◌≤◌, [], ◌∷◌, ◌++◌, length, take, if◌then◌else◌, nat_lt};
+ghost use Rattle.std.specs.Prelude.{◌≡◌, [], ◌∷◌, ◌++◌, length, if◌then◌else◌, nat_lt, is_ok};
 ghost use Rattle.tables.specs.Loans.{standing, Filtered};
 
 use super::Loans;
 use crate::keep::Keep;
 use crate::loan::Loan;
+use crate::loans_full::LoansFull;
 
 impl Loans {
     // No loan stands.
@@ -11,51 +12,37 @@ impl Loans {
         ensures none_stands { standing result ≡ [] }
     {
         Loans {
-            items: [Loan {
-                lender: 0,
-                borrower: 0,
-                role: 0,
-                due: 0,
-            }; 32],
+            items: [Loan::default(); 32],
             count: 0,
         }
     }
 
-    // One loan more; false, and nothing changed, where thirty-two stand.
-    pub fn add(&mut self, loan: Loan) -> bool
-        ensures added_at_the_end_where_there_is_room { (result ≡ nat_lt (length (standing self.old)) 32) × (standing self.new ≡ (if result then standing self.old ++ loan ∷ [] else standing self.old)) }
+    // One loan more; refused, and nothing changed, where thirty-two stand.
+    pub fn add(&mut self, loan: Loan) -> Result<(), LoansFull>
+        ensures accepted_exactly_where_fewer_than_32_stand { is_ok result ≡ nat_lt (length (standing self.old)) 32 }
+        ensures added_at_the_end_where_accepted { standing self.new ≡ (if is_ok result then standing self.old ++ loan ∷ [] else standing self.old) }
     {
-        if self.count >= 32 {
-            return false;
+        if self.is_full() {
+            return Err(LoansFull);
         }
         self.items[self.count] = loan;
         self.count += 1;
-        true
+        Ok(())
     }
 
     // Keeps the loans that pass the test, in their order, and ends the others for good.
     pub fn retain<T: Keep>(&mut self, test: &T)
         ensures keeps_exactly_the_loans_that_pass { Filtered (T.passes test.now) (standing self.old) (standing self.new) }
     {
-        let count = self.count;
-        let kept = keep(&mut self.items, count, test);
+        // By index: no iterator lends an array to read and to write at once.
+        let mut kept = 0;
+        for i in 0..self.count {
+            let loan = self.items[i];
+            if test.keeps(loan) {
+                self.items[kept] = loan;
+                kept += 1;
+            }
+        }
         self.count = kept;
     }
-}
-
-// Brings those of the first `count` loans that pass the test to the front, and answers how many they are.
-fn keep<T: Keep>(items: &mut [Loan], count: usize, test: &T) -> usize
-    requires { count ≤ length items.old }
-    ensures keeps_exactly_those_that_pass { Filtered (T.passes test.now) (take count items.old) (take result items.new) }
-    ensures answers_no_more_than_there_were { result ≤ count }
-{
-    let mut front = 0;
-    for i in 0..count {
-        let loan = items[i];
-        if test.keeps(loan) {
-            items[front] = loan;
-            front += 1;
-        }
-    }
-    front
 }

@@ -16,18 +16,17 @@ impl Panels {
     pub fn seat(&self, panel: u8) -> Option<Seat>
         ensures the_seat_there { result ≡ seat_at self.now.seats panel }
     {
-        if panel as usize >= self.seats.len() {
-            return None;
-        }
-        self.seats[panel as usize]
+        self.seats.get(usize::from(panel)).copied().flatten()
     }
 
     // Puts the seat at the panel, or closes it; where there is no such panel, nothing changes.
     pub fn put(&mut self, panel: u8, seat: Option<Seat>)
         ensures one_place_written { self.new.seats ≡ slice_set self.old.seats panel seat }
     {
-        if (panel as usize) < self.seats.len() {
-            self.seats[panel as usize] = seat;
+        // By index: of what `get_mut` lends, a proof learns no element afterwards.
+        let place = usize::from(panel);
+        if place < self.seats.len() {
+            self.seats[place] = seat;
         }
     }
 }

@@ -1,6 +1,5 @@
-ghost use Rattle.std.specs.Prelude.{◌≡◌, ℕ, true, Decides};
+ghost use Rattle.std.specs.Prelude.{ℕ, Decides};
 ghost use Rattle.sets.specs.Members.{member};
-ghost use Rattle.rules.specs.Rules.{Grants, Denies, seen};
 ghost use Rattle.tables.specs.Settings.{MetBy, GrantedBy, DeniedBy, ByRules, MayStand, setting};
 
 use super::Ruling;
@@ -10,15 +9,15 @@ use kinds::Kind;
 use rules::{Claim, Policy};
 use sets::Set;
 
-impl<'a, K: Kind, P: Policy> Ruling<'a, K, P> {
+impl<K: Kind, P: Policy> Ruling<'_, K, P> {
     // The rules that the person meets; none where there is no such person.
     pub fn met(&self, person: u16) -> Set
         ensures members_are_exactly_the_rules_met { (i : ℕ) → Decides (member result i) (MetBy (setting K.meaning P.judge self.now) person i) }
     {
-        if person as usize >= self.register.len() {
-            return Set::new();
+        match self.register.get(usize::from(person)) {
+            Some(value) => self.view.met_by(*value),
+            None => Set::new(),
         }
-        self.view.met_by(self.register[person as usize])
     }
 
     // The rules that the person meets and that grant or deny the role.
@@ -33,25 +32,20 @@ impl<'a, K: Kind, P: Policy> Ruling<'a, K, P> {
     pub fn entitles(&self, person: u16, role: u8) -> bool
         ensures tells_whether_rules_entitle { Decides result (ByRules (setting K.meaning P.judge self.now) person role) }
     {
-        self.claim(person, role)
-            .is_allowed(self.policy, self.senior)
+        self.allows(self.met(person), role)
     }
 
     // Whether the loan may stand: it is not due, its lender is entitled by rules, and its borrower meets no denying rule.
     pub fn lets_stand(&self, loan: Loan) -> bool
         ensures tells_whether_the_loan_may_stand { Decides result (MayStand (setting K.meaning P.judge self.now) loan) }
     {
-        if u64::from(self.clock) >= loan.due {
-            return false;
-        }
-        if !self.claim(loan.borrower, loan.role).denying.is_empty() {
-            return false;
-        }
-        self.entitles(loan.lender, loan.role)
+        u64::from(self.clock) < loan.due
+            && self.claim(loan.borrower, loan.role).denying.is_empty()
+            && self.entitles(loan.lender, loan.role)
     }
 }
 
-impl<'a, K: Kind, P: Policy> Keep for Ruling<'a, K, P> {
+impl<K: Kind, P: Policy> Keep for Ruling<'_, K, P> {
     ghost passes = { λ ruling loan. MayStand (setting K.Kind.meaning P.Policy.judge ruling) loan };
 
     fn keeps(&self, loan: Loan) -> bool {

@@ -8,7 +8,7 @@ use kinds::Kind;
 use rules::{Objection, Policy};
 use sets::Set;
 
-impl<'a, K: Kind, P: Policy> Ruling<'a, K, P> {
+impl<K: Kind, P: Policy> Ruling<'_, K, P> {
     // Whether a person who meets exactly these rules is entitled by rules to the role.
     pub fn allows(&self, met: Set, role: u8) -> bool
         ensures tells_whether_rules_entitle_whoever_meets_these { (person : ℕ) → ((i : ℕ) → Decides (member met i) (MetBy (setting K.meaning P.judge self.now) person i)) → Decides result (ByRules (setting K.meaning P.judge self.now) person role) }

@@ -1,4 +1,4 @@
-use Rattle.std.proofs.Common.{◌≡◌, ℕ, ◌+◌, List, refl, arith}
+use Rattle.std.proofs.Common.{◌≡◌, ℕ, ◌+◌, List, is_ok, refl, arith}
 use Rattle.std.proofs.lemmas.Result.{err_from_is_err_and}
 use Rattle.logs.proofs.Carrying.{carries}
 use Rattle.grader.proofs.CheckLaws.{refused, done}
@@ -26,14 +26,14 @@ returns g c =
     let old = c.args.self.now in
     let vs = c.args.register.now in
     let found = c.in_ok-lender.ensures.refused_by_the_first_check_that_holds in
-    let added = c.add.ensures.added_at_the_end_where_there_is_room in
+    let added = c.add.ensures in
     let later : c.from.result + c.from-2.result ≡ old.clock + c.args.minutes = omega (arith, c.from.ensures, c.from-2.ensures) in
     let performed : (first : List g.row.K-Value.Denot) (start : ℕ) → Performed (plant (book_of g.K.Kind.meaning c.args.book.now c.args.rules.now c.args.entries.now) (g.P.Policy.judge old.policy) first start) old.senior (held old vs) (Lend c.args.panel c.args.borrower c.args.role c.args.minutes) Done (with_loans (plant (book_of g.K.Kind.meaning c.args.book.now c.args.rules.now c.args.entries.now) (g.P.Policy.judge old.policy) first start) old.senior (held old vs) (standing c.add.new.self)) =
     λ first start.
     let p = plant (book_of g.K.Kind.meaning c.args.book.now c.args.rules.now c.args.entries.now) (g.P.Policy.judge old.policy) first start in
     done p old.senior (held old vs) (Lend c.args.panel c.args.borrower c.args.role c.args.minutes) _ refl found.0
-    (lends p old.senior (held old vs) c.in_ok-lender.lender c.args.borrower c.args.role c.args.minutes c.args.panel (c.from.result + c.from-2.result) (standing c.add.new.self) c.add.result
-    added.0 added.1 found.1.free.room later found.1.seated found.1.some_minutes found.1.by_rules found.1.free.not_denied found.1.free.not_lent) in
+    (lends p old.senior (held old vs) c.in_ok-lender.lender c.args.borrower c.args.role c.args.minutes c.args.panel (c.from.result + c.from-2.result) (standing c.add.new.self) (is_ok c.add.result)
+    added.accepted_exactly_where_fewer_than_32_stand added.added_at_the_end_where_accepted found.1.free.room later found.1.seated found.1.some_minutes found.1.by_rules found.1.free.not_denied found.1.free.not_lent) in
     record {
       policy_and_table_stay = (refl, refl);
       refused_by_its_first_check_that_holds_else_done = performed;

@@ -1,34 +1,24 @@
-use Rattle.std.proofs.Common.{sym, ◌∙◌}
-use Rattle.std.proofs.lemmas.Bool.{both_ways}
-use Rattle.std.proofs.lemmas.Bool.Decides.{not_from_Decides}
-use Rattle.sets.proofs.Gathering.{gathered_none, gathered_same, gathered_with, gathered_all}
-use Rattle.sets.proofs.MemberLaws.{member_below}
+use Rattle.std.proofs.Common.{inl, inr, sym, ap, ◌∙◌}
+use Rattle.sets.specs.Members.{member}
+use Rattle.tables.proofs.PanelLaws.{taken_in}
 use Rattle.tables.proofs.panels.trim.entitled_among.Goals as goal
-use Rattle.tables.proofs.panels.trim.entitled_among.Goals.{then-contains+then-is_entitled, else-contains, else-contains-via-then-contains+else-is_entitled, else-contains-via-else-contains}
+use Rattle.tables.proofs.panels.trim.entitled_among.Goals.{then-allows-via-then-allows, then-allows-via-else-allows+then-has}
 
-pub loop-role-init : goal.loop-role-init
-loop-role-init g c = gathered_none _ c.new-roles.result c.new-roles.ensures.no_number_is_a_member
-
-pub loop-role-preserved : goal.loop-role-preserved
-loop-role-preserved g c =
-    let active = c.contains.ensures.tells_whether_it_is_a_member in
-    elim c.if-contains.branch [
-      | then-contains+then-is_entitled w ↦
-          gathered_with _ _ _ _ _ w.roles-is c.loop-role-test.true
-          (sym active ∙ w.if-contains.true, w.is_entitled.ensures.tells_whether_there_are_grounds.0 w.if-is_entitled.true)
-          w.with-roles.ensures.members_are_those_before_and_this_one c.loop-role.invariant
-      | else-contains w ↦
-          gathered_same _ _ _ _ w.roles-is
-          (λ h. elim w.else-contains.branch [
-            | else-contains-via-then-contains+else-is_entitled w' ↦
-                not_from_Decides w'.is_entitled.result w'.is_entitled.ensures.tells_whether_there_are_grounds w'.if-is_entitled.false h.1
-            | else-contains-via-else-contains w' ↦ both_ways _ w'.if-contains.false (active ∙ h.0)
-          ])
-          c.loop-role.invariant
-    ]
-
-pub returns : goal.returns
-returns g c = record {
-  members_are_the_active_roles_with_grounds = gathered_all _ 64 c.loop-role.role c.loop-role.roles c.loop-role-test.false
-      (λ role w. member_below c.args.seat.active role w.0) c.loop-role.invariant;
-}
+pub loop-role-preserved-in-loop-role : goal.loop-role-preserved-in-loop-role
+loop-role-preserved-in-loop-role g c =
+    let read = c.in-Some.ensures.steps in
+    let same = c.loop-role.invariant.same_set in
+    record {
+      same_set = ap (λ m. m.set) read.1 ∙ same;
+      gathered = taken_in _ c.loop-role.roles c.loop-role.role-iterator c.loop-role.invariant.gathered c.next.new.self c.in-Some.role c.with-roles.result read
+          (λ k p. ap (λ s. member s k) same ∙ p.0)
+          (λ held. (
+            ap (λ s. member s c.in-Some.role) (sym same) ∙ held,
+            elim c.then-allows.branch [
+              | then-allows-via-then-allows w ↦
+                  inl ((c.allows.ensures.tells_whether_rules_entitle_whoever_meets_these c.args.seat.person c.met-met.ensures.members_are_exactly_the_rules_met).0 w.if-allows.true)
+              | then-allows-via-else-allows+then-has w ↦ inr (w.has.ensures.tells_whether_such_a_loan_stands.0 w.if-has.true)
+            ],
+          ))
+          c.with-roles.ensures.members_are_those_before_and_this_one;
+    }

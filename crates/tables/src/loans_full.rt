@@ -1,0 +1,3 @@
+// Thirty-two loans stand, and no more can.
+#[derive(Clone, Copy, PartialEq, Eq)]
+pub struct LoansFull;
