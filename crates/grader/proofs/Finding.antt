@@ -1,18 +1,15 @@
 -- What the checking functions find, in the words of the situation that the grader faces.
-use Rattle.std.proofs.Common.{◌≡◌, ℕ, ◌<◌, ◌≤◌, true, false, ◌⊎◌, List, [], ◌∷◌, length, Some, Err, sym, refl, ap, ◌∙◌, subst, inl, inr, ⊎_elim, arith}
+use Rattle.std.proofs.Common.{◌≡◌, ℕ, ◌<◌, ◌≤◌, true, false, ◌⊎◌, List, [], ◌∷◌, length, Some, None, Err, Option, is_some, sym, refl, ap, ◌∙◌, subst, inl, inr, ⊎_elim, arith}
 use Rattle.std.proofs.lemmas.Bool.{both_ways, cases_Bool}
 use Rattle.sets.specs.Members.{member}
-use Rattle.rules.specs.declared.claim.Verdict.{Verdict}
 use Rattle.rules.specs.declared.claim.Verdict.TheVariants.{NothingGrants, Denied}
-use Rattle.rules.specs.declared.seniority.Seniority.{Seniority}
-use Rattle.rules.specs.Policies.{Judge, NothingGrantingIsNo}
-use Rattle.rules.specs.Rules.{Book}
+use Rattle.rules.specs.Policies.{NothingGrantingIsNo}
 use Rattle.tables.specs.declared.seat.Seat.{Seat}
 use Rattle.tables.specs.Loans.{standing, OnLoan as LentAlready}
 use Rattle.tables.specs.Panels.{person_of, active_of, active_at}
-use Rattle.tables.specs.Settings.{Setting, DeniedBy as DeniedIn}
+use Rattle.tables.specs.Settings.{Setting, ByRules, GrantedBy, DeniedBy}
 use Rattle.tables.specs.Verdicts.{Decided, Lowest}
-use Rattle.logs.specs.Moments.{Moment, GrantedBy, ByTable, by}
+use Rattle.logs.specs.Moments.{Moment}
 use Rattle.logs.proofs.Alike.{lowest_over}
 use Rattle.logs.proofs.Moments.{granted_in, denied_in}
 use Rattle.logs.specs.declared.call.Call.TheVariants.{Take, Lend, Recall}
@@ -23,19 +20,27 @@ use Rattle.grader.specs.declared.grader.Grader.{Grader}
 use Rattle.grader.specs.Checks.{Passes, Refuses, Seated, OnGrounds, GrantedSeat, StopsByVerdict, FreeToBorrow, Lending, borrower_checks, facing, moment_of}
 
 -- to whom no rule grants the role, the policy says no
-no_grant : {V S : Type 0} (s : Moment V S) (table : Seniority) (person role : ℕ) → NothingGrantingIsNo s.judge → ((i : ℕ) → GrantedBy s person role i → ⊥) → ByTable s table person role → ⊥
-no_grant s table person role never none by =
+no_grant : {V S : Type 0} (s : Setting V S) (person role : ℕ) → NothingGrantingIsNo s.judge → ((i : ℕ) → GrantedBy s person role i → ⊥) → ByRules s person role → ⊥
+no_grant s person role never none by =
     let a = by.allowed in
     let out : (i : ℕ) → member a.granting i ≡ false = λ i.
     ⊎_elim
     (λ y. absurd (none i (record { value = by.value; on_record = by.on_record; granting = (a.all_granting i).0 y })))
     (λ z. z)
     (cases_Bool (member a.granting i)) in
-    both_ways (s.judge a.granting a.denying table) (never a.granting a.denying table out) a.yes
+    both_ways (s.judge a.granting a.denying s.table) (never a.granting a.denying s.table out) a.yes
 
-module _ {P V S : Type 0} (b : Book V S) (judge : Judge) (table : Seniority) (g : Grader P) (vs : List V) where
+-- at an open panel there is somebody
+pub somebody : (seat : Option Seat) → is_some seat ≡ true → (person : ℕ) × (person_of seat ≡ Some person)
+somebody (Some seat) is = (seat.person, refl)
+somebody None is = absurd (both_ways false refl is)
+
+module _ {P V S : Type 0} (s : Setting V S) (g : Grader P) where
   abbrev here : Situation V
-  here = facing b judge table g vs
+  here = facing s g
+
+  abbrev now : Moment V S
+  now = moment_of s.book s.judge s.records s.minute
 
   lent_held : (person role : ℕ) → OnLoan here person role → LentAlready (standing g.loans) person role
   lent_held person role lent = record { place = lent.stands.0; loan = lent.loan; found = lent.stands.1; lent = lent.lent }
@@ -43,58 +48,43 @@ module _ {P V S : Type 0} (b : Book V S) (judge : Judge) (table : Seniority) (g 
   lent_faced : (person role : ℕ) → LentAlready (standing g.loans) person role → OnLoan here person role
   lent_faced person role lent = record { loan = lent.loan; lent = lent.lent; stands = (lent.place, lent.found) }
 
-  -- by a ruling over what is lent
-  module _ (s : Setting V S) (same : s ≡ by (moment_of b judge vs g.clock) table) (person role : ℕ) where
-    abbrev now : Moment V S
-    now = moment_of b judge vs g.clock
+  -- by the verdict on somebody who has no such loan
+  module _ (person role : ℕ) (not_lent : LentAlready (standing g.loans) person role → ⊥) where
+    pub ungranted : Decided s person role NothingGrants → Ungranted here role person
+    ungranted none = record {
+      nothing_grants = λ i granted. none i ((granted_in now s.table person role i).1 granted);
+      not_on_loan = λ lent. not_lent (lent_held person role lent);
+    }
 
-    pub not_denied : ((i : ℕ) → DeniedIn s person role i → ⊥) → (i : ℕ) → here.DeniedBy person role i → ⊥
-    not_denied none i denied = subst (λ x. (i : ℕ) → DeniedIn x person role i → ⊥) same none i ((denied_in now table person role i).1 denied)
+    pub overruled : (rule : ℕ) → Decided s person role (Denied rule) → Overruled here role rule person
+    overruled rule denied = record {
+      lowest = lowest_over (DeniedBy s person role) (here.DeniedBy person role) (denied_in now s.table person role) rule denied.lowest;
+      granting = (denied.granting.0, (granted_in now s.table person role denied.granting.0).0 denied.granting.1);
+      not_by_rules = denied.refused;
+      not_on_loan = λ lent. not_lent (lent_held person role lent);
+    }
 
-    pub lowest_denying : (i : ℕ) → Lowest (DeniedIn s person role) i → Lowest (here.DeniedBy person role) i
-    lowest_denying i low =
-        lowest_over (DeniedIn (by now table) person role) (here.DeniedBy person role) (denied_in now table person role) i
-        (subst (λ x. Lowest (DeniedIn x person role) i) same low)
+  -- of a borrower to whom the role is not on loan
+  module _ (borrower role : ℕ) (not_lent : LentAlready (standing g.loans) borrower role → ⊥) where
+    pub denial_refuses : (i : ℕ) → Lowest (DeniedBy s borrower role) i → Refuses (borrower_checks s g borrower role) (BorrowerDenied i)
+    denial_refuses i low = inr (
+      (λ _ w. not_lent (lent_held borrower role w.1)),
+      inl (i, refl, lowest_over (DeniedBy s borrower role) (here.DeniedBy borrower role) (denied_in now s.table borrower role) i low),
+    )
 
-    module _ (not_lent : LentAlready (standing g.loans) person role → ⊥) where
-      decided_here : (verdict : Verdict) → Decided s person role verdict → Decided (by now table) person role verdict
-      decided_here verdict d = subst (λ x. Decided x person role verdict) same d
+    module _ (none : (i : ℕ) → DeniedBy s borrower role i → ⊥) where
+      undenied : (i : ℕ) → here.DeniedBy borrower role i → ⊥
+      undenied i denied = none i ((denied_in now s.table borrower role i).1 denied)
 
-      pub ungranted : Decided s person role NothingGrants → Ungranted here role person
-      ungranted none = record {
-        nothing_grants = λ i granted. decided_here NothingGrants none i ((granted_in now table person role i).1 granted);
-        not_on_loan = λ lent. not_lent (lent_held person role lent);
-      }
-
-      pub overruled : (rule : ℕ) → Decided s person role (Denied rule) → Overruled here role rule person
-      overruled rule denied =
-          let d = decided_here (Denied rule) denied in
-          record {
-            lowest = lowest_over (DeniedIn (by now table) person role) (here.DeniedBy person role) (denied_in now table person role) rule d.lowest;
-            granting = (d.granting.0, (granted_in now table person role d.granting.0).0 d.granting.1);
-            not_by_rules = d.refused;
-            not_on_loan = λ lent. not_lent (lent_held person role lent);
-          }
-
-  pub denial_refuses : (borrower role : ℕ) → (LentAlready (standing g.loans) borrower role → ⊥) → (i : ℕ) → Lowest (here.DeniedBy borrower role) i →
-      Refuses (borrower_checks b judge table g vs borrower role) (BorrowerDenied i)
-  denial_refuses borrower role not_lent i low = inr ((λ _ w. not_lent (lent_held borrower role w.1)), inl (i, refl, low))
-
-  module _
-      (borrower role : ℕ) (not_lent : LentAlready (standing g.loans) borrower role → ⊥)
-      (none : (i : ℕ) → here.DeniedBy borrower role i → ⊥)
-    where
-      pub full_refuses : 32 ≤ length (standing g.loans) → Refuses (borrower_checks b judge table g vs borrower role) LoansFull
+      pub full_refuses : 32 ≤ length (standing g.loans) → Refuses (borrower_checks s g borrower role) LoansFull
       full_refuses full =
-          inr ((λ _ w. not_lent (lent_held borrower role w.1)), inr ((λ _ w. none w.0 w.2.held), inl (refl, full)))
+          inr ((λ _ w. not_lent (lent_held borrower role w.1)), inr ((λ _ w. undenied w.0 w.2.held), inl (refl, full)))
 
-      pub free_passes :
-          length (standing g.loans) < 32 →
-          Passes (borrower_checks b judge table g vs borrower role) × FreeToBorrow b judge table g vs borrower role
+      pub free_passes : length (standing g.loans) < 32 → Passes (borrower_checks s g borrower role) × FreeToBorrow s g borrower role
       free_passes room = (
         (
           (λ _ w. not_lent (lent_held borrower role w.1)),
-          ((λ _ w. none w.0 w.2.held), ((λ _ w. let full = w.1 in let z : ⊥ = omega arith in z), tt)),
+          ((λ _ w. undenied w.0 w.2.held), ((λ _ w. let full = w.1 in let z : ⊥ = omega arith in z), tt)),
         ),
         record { not_lent = not_lent; not_denied = none; room = room },
       )
@@ -123,7 +113,7 @@ module _ {P V S : Type 0} (b : Book V S) (judge : Judge) (table : Seniority) (g 
         inactive : active_at g.panels.seats panel role ≡ true → ⊥
         inactive e = both_ways (active_at g.panels.seats panel role) (active_here ∙ sym not_active) e
 
-        pub take_refused : (f : Refusal) → StopsByVerdict b judge table g vs seat.person role (Err f) → Refuses (checks here (Take panel role)) f
+        pub take_refused : (f : Refusal) → StopsByVerdict s g seat.person role (Err f) → Refuses (checks here (Take panel role)) f
         take_refused f stopped =
             inr (
               found.0.0,
@@ -145,11 +135,11 @@ module _ {P V S : Type 0} (b : Book V S) (judge : Judge) (table : Seniority) (g 
               ),
             )
 
-        pub take_passes : NothingGrantingIsNo judge → OnGrounds b judge table g vs seat.person role → Passes (checks here (Take panel role)) × GrantedSeat b judge table g vs panel role seat
+        pub take_passes : NothingGrantingIsNo s.judge → OnGrounds s g seat.person role → Passes (checks here (Take panel role)) × GrantedSeat s g panel role seat
         take_passes never grounds =
             let not_ungranted : Ungranted here role seat.person → ⊥ = λ none.
             ⊎_elim
-            (no_grant (moment_of b judge vs g.clock) table seat.person role never none.nothing_grants)
+            (no_grant s seat.person role never (λ i granted. none.nothing_grants i ((granted_in now s.table seat.person role i).0 granted)))
             (λ lent. none.not_on_loan (lent_faced seat.person role lent))
             grounds in
             let not_overruled : (i : ℕ) → Overruled here role i seat.person → ⊥ = λ i over.
@@ -174,23 +164,23 @@ module _ {P V S : Type 0} (b : Book V S) (judge : Judge) (table : Seniority) (g 
             )
 
       -- and such a person
-      module _ (borrower : ℕ) (a_person : length vs ≤ borrower → ⊥) where
+      module _ (borrower : ℕ) (a_person : length s.records ≤ borrower → ⊥) where
         first_four : (rest : List Check) (f : Refusal) → Refuses rest f → Refuses (no_panel panel ∷ (closed_panel here panel ∷ (no_person here borrower ∷ (no_role role ∷ rest)))) f
         first_four rest f refused = inr (found.0.0, inr (found.0.1.0, inr ((λ _ w. a_person w.1), inr ((λ _ w. a_role w.1), refused))))
 
-        not_entitled : (rest : List Check) (f : Refusal) → (f ≡ NotEntitledByRules) × (here.ByRules seat.person role → ⊥) → Refuses (not_by_rules here panel role ∷ rest) f
-        not_entitled rest f none = inl (none.0, at_seat (λ who. here.ByRules who role → ⊥) none.1)
+        not_entitled : (rest : List Check) (f : Refusal) → (f ≡ NotEntitledByRules) × (ByRules s seat.person role → ⊥) → Refuses (not_by_rules here panel role ∷ rest) f
+        not_entitled rest f none = inl (none.0, at_seat (λ who. ByRules s who role → ⊥) none.1)
 
-        entitled : here.ByRules seat.person role → (f : Refusal) → (not_by_rules here panel role).1 f → ⊥
-        entitled by_rules f w = of_seat (λ who. here.ByRules who role → ⊥) w.1 by_rules
+        entitled : ByRules s seat.person role → (f : Refusal) → (not_by_rules here panel role).1 f → ⊥
+        entitled by_rules f w = of_seat (λ who. ByRules s who role → ⊥) w.1 by_rules
 
         abbrev no_such_loan : List Check
         no_such_loan = only NoSuchLoan (OnLoan here borrower role → ⊥) ∷ []
 
-        pub recall_not_entitled : (f : Refusal) → (f ≡ NotEntitledByRules) × (here.ByRules seat.person role → ⊥) → Refuses (checks here (Recall panel borrower role)) f
+        pub recall_not_entitled : (f : Refusal) → (f ≡ NotEntitledByRules) × (ByRules s seat.person role → ⊥) → Refuses (checks here (Recall panel borrower role)) f
         recall_not_entitled f none = first_four (not_by_rules here panel role ∷ no_such_loan) f (not_entitled no_such_loan f none)
 
-        pub recall_unlent : here.ByRules seat.person role → (LentAlready (standing g.loans) borrower role → ⊥) → Refuses (checks here (Recall panel borrower role)) NoSuchLoan
+        pub recall_unlent : ByRules s seat.person role → (LentAlready (standing g.loans) borrower role → ⊥) → Refuses (checks here (Recall panel borrower role)) NoSuchLoan
         recall_unlent by_rules not_lent =
             first_four (not_by_rules here panel role ∷ no_such_loan) NoSuchLoan
             (inr (entitled by_rules, inl (refl, (λ lent. not_lent (lent_held borrower role lent)))))
@@ -201,7 +191,7 @@ module _ {P V S : Type 0} (b : Book V S) (judge : Judge) (table : Seniority) (g 
           term_checks To-lender rest = only BorrowerIsLender To-lender ∷ (only MinutesOutOfBounds ((minutes ≡ 0) ⊎ (1440 < minutes)) ∷ rest)
 
           abbrev grounds_checks : List Check
-          grounds_checks = not_by_rules here panel role ∷ borrower_checks b judge table g vs borrower role
+          grounds_checks = not_by_rules here panel role ∷ borrower_checks s g borrower role
 
           abbrev active_checks : List Check
           active_checks = only NotActive (active_at g.panels.seats panel role ≡ true → ⊥) ∷ grounds_checks
@@ -233,16 +223,16 @@ module _ {P V S : Type 0} (b : Book V S) (judge : Judge) (table : Seniority) (g 
               after_active : (f : Refusal) → Refuses grounds_checks f → Refuses (checks here (Lend panel borrower role minutes)) f
               after_active f refused = after_terms f (inr ((λ _ w. w.1 (active_here ∙ sym active)), refused))
 
-              pub lend_not_entitled : (f : Refusal) → (f ≡ NotEntitledByRules) × (here.ByRules seat.person role → ⊥) → Refuses (checks here (Lend panel borrower role minutes)) f
-              lend_not_entitled f none = after_active f (not_entitled (borrower_checks b judge table g vs borrower role) f none)
+              pub lend_not_entitled : (f : Refusal) → (f ≡ NotEntitledByRules) × (ByRules s seat.person role → ⊥) → Refuses (checks here (Lend panel borrower role minutes)) f
+              lend_not_entitled f none = after_active f (not_entitled (borrower_checks s g borrower role) f none)
 
-              module _ (by_rules : here.ByRules seat.person role) where
-                pub lend_borrower : (f : Refusal) → Refuses (borrower_checks b judge table g vs borrower role) f → Refuses (checks here (Lend panel borrower role minutes)) f
+              module _ (by_rules : ByRules s seat.person role) where
+                pub lend_borrower : (f : Refusal) → Refuses (borrower_checks s g borrower role) f → Refuses (checks here (Lend panel borrower role minutes)) f
                 lend_borrower f refused = after_active f (inr (entitled by_rules, refused))
 
                 pub lend_passes :
-                    Passes (borrower_checks b judge table g vs borrower role) × FreeToBorrow b judge table g vs borrower role →
-                    Passes (checks here (Lend panel borrower role minutes)) × Lending b judge table g vs panel borrower role minutes seat.person
+                    Passes (borrower_checks s g borrower role) × FreeToBorrow s g borrower role →
+                    Passes (checks here (Lend panel borrower role minutes)) × Lending s g panel borrower role minutes seat.person
                 lend_passes free = (
                   (
                     found.0.0,

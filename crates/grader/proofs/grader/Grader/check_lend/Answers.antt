@@ -1,5 +1,4 @@
 use Rattle.std.proofs.lemmas.Result.{err_from_is_err_and}
-use Rattle.grader.specs.Graders.{book_of}
 use Rattle.grader.proofs.Finding.{lend_terms, lend_inactive, lend_not_entitled, lend_borrower, lend_passes}
 use Rattle.grader.proofs.grader.Grader.check_lend.Goals as goal
 
@@ -9,8 +8,7 @@ returns-in_err-check_terms g c =
     rw (q.1, q.2) (record {
       refused_by_the_first_check_that_holds =
           lend_terms
-          (book_of g.K.Kind.meaning c.args.book.now c.args.rules.now c.args.entries.now) (g.P.Policy.judge c.args.self.now.policy)
-          c.args.senior.now c.args.self.now c.args.register.now c.args.panel c.in_ok-seat.seat c.in_ok-seat.ensures.finds_the_seat
+          _ c.args.self.now c.args.panel c.in_ok-seat.seat c.in_ok-seat.ensures.finds_the_seat
           c.args.role c.in_ok-check_role.ensures.stops_where_there_is_no_such_role
           c.args.borrower c.in_ok-check_person.ensures.stops_where_there_is_no_such_person
           c.args.minutes c.in_err-check_terms.field-0.0 c.in_err-check_terms.ensures.refused_by_the_first_check_that_holds;
@@ -20,8 +18,7 @@ pub returns-then-not-contains : goal.returns-then-not-contains
 returns-then-not-contains g c = record {
   refused_by_the_first_check_that_holds =
       lend_inactive
-      (book_of g.K.Kind.meaning c.args.book.now c.args.rules.now c.args.entries.now) (g.P.Policy.judge c.args.self.now.policy)
-      c.args.senior.now c.args.self.now c.args.register.now c.args.panel c.in_ok-seat.seat c.in_ok-seat.ensures.finds_the_seat
+      _ c.args.self.now c.args.panel c.in_ok-seat.seat c.in_ok-seat.ensures.finds_the_seat
       c.args.role c.in_ok-check_role.ensures.stops_where_there_is_no_such_role
       c.args.borrower c.in_ok-check_person.ensures.stops_where_there_is_no_such_person
       c.args.minutes c.in_ok-check_terms.ensures.refused_by_the_first_check_that_holds
@@ -34,8 +31,7 @@ returns-in_err-check_entitled g c =
     rw (q.1, q.2) (record {
       refused_by_the_first_check_that_holds =
           lend_not_entitled
-          (book_of g.K.Kind.meaning c.args.book.now c.args.rules.now c.args.entries.now) (g.P.Policy.judge c.args.self.now.policy)
-          c.args.senior.now c.args.self.now c.args.register.now c.args.panel c.in_ok-seat.seat c.in_ok-seat.ensures.finds_the_seat
+          _ c.args.self.now c.args.panel c.in_ok-seat.seat c.in_ok-seat.ensures.finds_the_seat
           c.args.role c.in_ok-check_role.ensures.stops_where_there_is_no_such_role
           c.args.borrower c.in_ok-check_person.ensures.stops_where_there_is_no_such_person
           c.args.minutes c.in_ok-check_terms.ensures.refused_by_the_first_check_that_holds
@@ -49,8 +45,7 @@ returns-in_err-check_borrower g c =
     rw (q.1, q.2) (record {
       refused_by_the_first_check_that_holds =
           lend_borrower
-          (book_of g.K.Kind.meaning c.args.book.now c.args.rules.now c.args.entries.now) (g.P.Policy.judge c.args.self.now.policy)
-          c.args.senior.now c.args.self.now c.args.register.now c.args.panel c.in_ok-seat.seat c.in_ok-seat.ensures.finds_the_seat
+          _ c.args.self.now c.args.panel c.in_ok-seat.seat c.in_ok-seat.ensures.finds_the_seat
           c.args.role c.in_ok-check_role.ensures.stops_where_there_is_no_such_role
           c.args.borrower c.in_ok-check_person.ensures.stops_where_there_is_no_such_person
           c.args.minutes c.in_ok-check_terms.ensures.refused_by_the_first_check_that_holds
@@ -63,8 +58,7 @@ pub returns : goal.returns
 returns g c = record {
   refused_by_the_first_check_that_holds =
       lend_passes
-      (book_of g.K.Kind.meaning c.args.book.now c.args.rules.now c.args.entries.now) (g.P.Policy.judge c.args.self.now.policy)
-      c.args.senior.now c.args.self.now c.args.register.now c.args.panel c.in_ok-seat.seat c.in_ok-seat.ensures.finds_the_seat
+      _ c.args.self.now c.args.panel c.in_ok-seat.seat c.in_ok-seat.ensures.finds_the_seat
       c.args.role c.in_ok-check_role.ensures.stops_where_there_is_no_such_role
       c.args.borrower c.in_ok-check_person.ensures.stops_where_there_is_no_such_person
       c.args.minutes c.in_ok-check_terms.ensures.refused_by_the_first_check_that_holds

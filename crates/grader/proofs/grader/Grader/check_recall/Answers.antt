@@ -1,6 +1,5 @@
 use Rattle.std.proofs.lemmas.Result.{err_from_is_err_and}
 use Rattle.std.proofs.lemmas.Bool.Decides.{not_from_Decides}
-use Rattle.grader.specs.Graders.{book_of}
 use Rattle.grader.proofs.Finding.{recall_not_entitled, recall_unlent}
 use Rattle.grader.proofs.grader.Grader.check_recall.Goals as goal
 
@@ -10,8 +9,7 @@ returns-in_err-check_entitled g c =
     rw (q.1, q.2) (record {
       refused_by_the_first_check_that_holds =
           recall_not_entitled
-          (book_of g.K.Kind.meaning c.args.book.now c.args.rules.now c.args.entries.now) (g.P.Policy.judge c.args.self.now.policy)
-          c.args.senior.now c.args.self.now c.args.register.now c.args.panel c.in_ok-seat.seat c.in_ok-seat.ensures.finds_the_seat
+          _ c.args.self.now c.args.panel c.in_ok-seat.seat c.in_ok-seat.ensures.finds_the_seat
           c.args.role c.in_ok-check_role.ensures.stops_where_there_is_no_such_role
           c.args.borrower c.in_ok-check_person.ensures.stops_where_there_is_no_such_person
           c.in_err-check_entitled.field-0.0 c.in_err-check_entitled.ensures.refused_unless_rules_entitle;
@@ -21,8 +19,7 @@ pub returns-then-not-has : goal.returns-then-not-has
 returns-then-not-has g c = record {
   refused_by_the_first_check_that_holds =
       recall_unlent
-      (book_of g.K.Kind.meaning c.args.book.now c.args.rules.now c.args.entries.now) (g.P.Policy.judge c.args.self.now.policy)
-      c.args.senior.now c.args.self.now c.args.register.now c.args.panel c.in_ok-seat.seat c.in_ok-seat.ensures.finds_the_seat
+      _ c.args.self.now c.args.panel c.in_ok-seat.seat c.in_ok-seat.ensures.finds_the_seat
       c.args.role c.in_ok-check_role.ensures.stops_where_there_is_no_such_role
       c.args.borrower c.in_ok-check_person.ensures.stops_where_there_is_no_such_person
       c.in_ok-check_entitled.ensures.refused_unless_rules_entitle
