@@ -8,7 +8,7 @@ use Rattle.grader.specs.Checks.{Found, Lending, facing}
 use Rattle.grader.specs.Graders.{held}
 use Rattle.grader.proofs.CheckLaws.{done}
 use Rattle.grader.proofs.Granting.{lends}
-use Rattle.grader.proofs.Telling.{lent, ruled_out}
+use Rattle.grader.proofs.Telling.{tells_lent, ruled_out}
 use Rattle.grader.proofs.grader.Grader.lend.Goals as goal
 
 pub returns-in_err-lender : goal.returns-in_err-lender
@@ -34,7 +34,7 @@ returns g c =
     let added = c.add.ensures.added_at_the_end_where_there_is_room in
     let later : c.from.result + c.from-2.result ≡ old.clock + c.args.minutes = omega (arith, c.from.ensures, c.from-2.ensures) in
     let told =
-    lent _ _ old.senior (held old c.args.register.now) call Done _
+    tells_lent _ _ old.senior (held old c.args.register.now) call Done _
     (λ first start. done _ _ _ _ _ refl found.0
     (lends _ _ _ c.in_ok-lender.lender c.args.borrower c.args.role c.args.minutes c.args.panel (c.from.result + c.from-2.result) (standing c.add.new.self) c.add.result
     added.0 added.1 found.1.free.room later found.1.seated found.1.some_minutes found.1.by_rules found.1.free.not_denied found.1.free.not_lent)) in

@@ -7,7 +7,7 @@ use Rattle.grader.specs.Checks.{Passes, facing}
 use Rattle.grader.specs.Graders.{held}
 use Rattle.grader.proofs.CheckLaws.{done}
 use Rattle.grader.proofs.Settling.{recalled}
-use Rattle.grader.proofs.Telling.{lent, ruled_out}
+use Rattle.grader.proofs.Telling.{tells_lent, ruled_out}
 use Rattle.grader.proofs.grader.Grader.recall.Goals as goal
 
 pub returns-in_err-check_recall : goal.returns-in_err-check_recall
@@ -32,7 +32,7 @@ returns g c =
     c.ruling-ruling.ensures.rules_by_what_is_lent c.in_ok-check_recall.ensures.refused_by_the_first_check_that_holds.0 in
     let ended = c.retain.ensures.keeps_exactly_the_loans_that_pass in
     let settled = c.settle.ensures.ends_what_has_no_grounds in
-    let told = lent _ _ old.senior (held old c.args.register.now) call Done _ (λ first start. done _ _ _ _ _ refl passed (recalled _ _ _ _ settled _ _ _ _ ended)) in
+    let told = tells_lent _ _ old.senior (held old c.args.register.now) call Done _ (λ first start. done _ _ _ _ _ refl passed (recalled _ _ _ _ settled _ _ _ _ ended)) in
     record {
       policy_and_table_stay = settled.stays;
       refused_by_its_first_check_that_holds_else_done = told.0;

@@ -7,7 +7,7 @@ use Rattle.grader.specs.Checks.{Found, GrantedSeat, facing}
 use Rattle.grader.specs.Graders.{held}
 use Rattle.grader.proofs.CheckLaws.{done, panel_there, role_small}
 use Rattle.grader.proofs.Granting.{takes}
-use Rattle.grader.proofs.Telling.{lent, ruled_out}
+use Rattle.grader.proofs.Telling.{tells_lent, ruled_out}
 use Rattle.grader.proofs.grader.Grader.take.Goals as goal
 
 pub returns-in_err-seat : goal.returns-in_err-seat
@@ -33,7 +33,7 @@ returns g c =
     let there = panel_there old.panels.seats c.args.panel old.panels.long (λ above. found.0.0 _ (refl, above)) in
     let small = role_small c.args.role (λ above. found.0.1.1.0 _ (refl, above)) in
     let told =
-    lent _ _ old.senior (held old c.args.register.now) call Done _
+    tells_lent _ _ old.senior (held old c.args.register.now) call Done _
     (λ first start. done _ _ _ _ _ refl found.0
     (takes _ _ _ c.put.new.self.seats _ _ c.put.ensures.one_place_written there
     _ found.1.there refl _ small c.with.ensures.members_are_those_before_and_this_one found.1.grounds)) in
