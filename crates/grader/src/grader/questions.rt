@@ -1,6 +1,6 @@
 ghost use Rattle.std.specs.Prelude.{ℕ, List};
-ghost use Rattle.logs.specs.Logs.{Plant};
 ghost use Rattle.tables.specs.Settings.{setting};
+ghost use Rattle.logs.specs.Logs.{Plant};
 ghost use Rattle.logs.specs.Situations.{standing};
 ghost use Rattle.logs.specs.declared.call.Call.TheVariants.{Entitled, Roles};
 ghost use Rattle.grader.specs.Checks.{facing};

@@ -67,6 +67,7 @@ impl<P: Policy> Grader<P> {
         ensures ends_what_has_no_grounds { Settled (book_of K.meaning book.now rules.now entries.now) (P.judge self.old.policy) self.old register.now self.new }
     {
         let senior = self.senior;
+        // Not by `ruling`, which borrows the whole grader: loans and panels change while this one reads the policy.
         let ruling = Ruling {
             view: book.view::<K>(rules, entries),
             policy: &self.policy,

@@ -2,8 +2,8 @@ use Rattle.std.proofs.Common.{rules, refl, subst}
 use Rattle.logs.specs.Situations.{standing}
 use Rattle.logs.specs.declared.call.Call.TheVariants.{Entitled}
 use Rattle.logs.specs.declared.reply.Reply.TheVariants.{Stands}
-use Rattle.grader.specs.Checks.{facing}
 use Rattle.logs.proofs.Carrying.{carries}
+use Rattle.grader.specs.Checks.{facing}
 use Rattle.grader.specs.Graders.{held}
 use Rattle.grader.proofs.Asking.{told}
 use Rattle.grader.proofs.Telling.{tells_lent}

@@ -1,13 +1,13 @@
 use Rattle.std.proofs.Common.{refl}
 use Rattle.std.proofs.lemmas.Result.{err_from_is_err_and}
 use Rattle.logs.proofs.Carrying.{carries}
-use Rattle.grader.proofs.CheckLaws.{refused, done, panel_there}
-use Rattle.grader.proofs.Granting.{with_seats, opens}
 use Rattle.logs.specs.declared.call.Call.TheVariants.{Open}
 use Rattle.logs.specs.declared.reply.Reply.TheVariants.{Done}
 use Rattle.logs.specs.Logs.{Plant}
-use Rattle.grader.specs.Graders.{held}
 use Rattle.logs.specs.Steps.{Performed}
+use Rattle.grader.proofs.CheckLaws.{refused, done, panel_there}
+use Rattle.grader.proofs.Granting.{with_seats, opens}
+use Rattle.grader.specs.Graders.{held}
 use Rattle.grader.proofs.grader.Grader.open.Goals as goal
 
 pub returns-in_err-check_open : goal.returns-in_err-check_open
