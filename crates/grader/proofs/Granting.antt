@@ -7,8 +7,8 @@ use Rattle.tables.specs.declared.loan.Loan.{Loan}
 use Rattle.tables.specs.declared.seat.Seat.{Seat}
 use Rattle.tables.specs.Loans.{OnLoan}
 use Rattle.tables.specs.Panels.{seat_at, person_of, person_at, active_of, active_at}
-use Rattle.logs.specs.Moments.{ByTable, DeniedBy}
-use Rattle.logs.proofs.Moments.{denied_in}
+use Rattle.tables.specs.Settings.{DeniedBy}
+use Rattle.logs.specs.Moments.{ByTable, by}
 use Rattle.logs.specs.declared.call.Call.TheVariants.{Open, Close, Take, Drop, Lend}
 use Rattle.logs.specs.Logs.{Plant}
 use Rattle.logs.specs.Promises.{Held}
@@ -76,7 +76,7 @@ module _ {V S : Type 0} (p : Plant V S) (table : Seniority) (old : Held V) where
     pub lends : (panel due : ℕ) (loans : List Loan) (room : Bool) →
         room ≡ ltb (length old.loans) 32 → loans ≡ cond room (old.loans ++ (loan_due due ∷ [])) old.loans → length old.loans < 32 → due ≡ old.clock + minutes →
         person_at old.panels panel ≡ Some lender → 0 < minutes → ByTable (now_held p old) table lender role →
-        ((i : ℕ) → DeniedBy (now_held p old) borrower role i → ⊥) → (OnLoan old.loans borrower role → ⊥) →
+        ((i : ℕ) → DeniedBy (by (now_held p old) table) borrower role i → ⊥) → (OnLoan old.loans borrower role → ⊥) →
         Became p table old (Lend panel borrower role minutes) (with_loans loans)
     lends panel due loans room told added fits later seated some entitled undenied unlent = record {
       clock_set = refl;
@@ -88,7 +88,7 @@ module _ {V S : Type 0} (p : Plant V S) (table : Seniority) (old : Held V) where
         lender = lender;
         seated = seated;
         added = added ∙ (cond-true room (old.loans ++ (loan_due due ∷ [])) old.loans (told ∙ lt-ltb (length old.loans) 32 fits) ∙ ap (λ d. old.loans ++ (loan_due d ∷ [])) later);
-        may_stand = record { not_due = omega arith; lender_entitled = entitled; borrower_not_denied = λ i denied. undenied i ((denied_in (now_held p old) table borrower role i).0 denied) };
+        may_stand = record { not_due = omega arith; lender_entitled = entitled; borrower_not_denied = undenied };
         not_lent = unlent;
       };
     }

@@ -1,4 +1,5 @@
 pub mod CheckLaws
+pub mod Telling
 pub mod PanelChanges
 pub mod Granting
 pub mod Finding

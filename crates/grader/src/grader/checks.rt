@@ -1,12 +1,15 @@
 ghost use Rattle.std.specs.Prelude.{◌≡◌, ◌<◌, ◌≤◌, ◌⊎◌, [], ◌∷◌, length, None};
 ghost use Rattle.tables.specs.Panels.{person_at};
+ghost use Rattle.tables.specs.Settings.{ByRules, setting};
 ghost use Rattle.logs.specs.Situations.{only, no_panel};
-ghost use Rattle.logs.specs.declared.refusal.Refusal.TheVariants.{NoSuchPanel, PanelClosed, NoSuchPerson, NoSuchRole, BorrowerIsLender, MinutesOutOfBounds};
-ghost use Rattle.grader.specs.Checks.{Stops, Found, Seated};
+ghost use Rattle.logs.specs.declared.refusal.Refusal.TheVariants.{NoSuchPanel, PanelClosed, NoSuchPerson, NoSuchRole, BorrowerIsLender, MinutesOutOfBounds, NotEntitledByRules};
+ghost use Rattle.grader.specs.Checks.{Stops, StopsUnless, Found, Seated};
 
 use super::Grader;
+use kinds::Kind;
 use logs::Refusal;
-use tables::Seat;
+use rules::Policy;
+use tables::{Ruling, Seat};
 
 pub(super) const LAST_MINUTE: u32 = 4_000_000_000;
 
@@ -28,7 +31,7 @@ pub(super) fn check_panel(panel: u8) -> Result<(), Refusal>
 pub(super) fn check_person<V>(person: u16, register: &[V]) -> Result<(), Refusal>
     ensures stops_where_there_is_no_such_person { Stops NoSuchPerson (length register.now ≤ person) result }
 {
-    if person as usize >= register.len() {
+    if usize::from(person) >= register.len() {
         return Err(Refusal::NoSuchPerson);
     }
     Ok(())
@@ -56,15 +59,26 @@ pub(super) fn check_terms(lender: u16, borrower: u16, minutes: u16) -> Result<()
     Ok(())
 }
 
+// Whether the person is entitled by rules to the role.
+pub(super) fn check_entitled<K: Kind, P: Policy>(
+    ruling: &Ruling<'_, K, P>,
+    person: u16,
+    role: u8,
+) -> Result<(), Refusal>
+    ensures refused_unless_rules_entitle { StopsUnless NotEntitledByRules (ByRules (setting K.meaning P.judge ruling.now) person role) result }
+{
+    if !ruling.entitles(person, role) {
+        return Err(Refusal::NotEntitledByRules);
+    }
+    Ok(())
+}
+
 impl<P> Grader<P> {
     // The seat at a panel that is open.
     pub(super) fn seat_at(&self, panel: u8) -> Result<Seat, Refusal>
         ensures finds_the_seat { Found (no_panel panel ∷ (only PanelClosed (person_at self.now.panels.seats panel ≡ None) ∷ [])) (Seated self.now panel) result }
     {
         check_panel(panel)?;
-        match self.panels.seat(panel) {
-            Some(seat) => Ok(seat),
-            None => Err(Refusal::PanelClosed),
-        }
+        self.panels.seat(panel).ok_or(Refusal::PanelClosed)
     }
 }

@@ -70,10 +70,5 @@ impl<P: Policy> Ready<P> {
 fn has_unlawful<K: Kind>(register: &[K::Value]) -> bool
     ensures tells_whether_some_record_is_unlawful { Decides result ((i : ℕ) × (v : K.Value) × (slice_get register.now i ≡ Some v) × (K.meaning.lawful_value v ≢ true)) }
 {
-    for v in register {
-        if !K::lawful_value(*v) {
-            return true;
-        }
-    }
-    false
+    register.iter().any(|v| !K::lawful_value(*v))
 }

@@ -1,17 +1,19 @@
 ghost use Rattle.std.specs.Prelude.{ℕ, List};
+ghost use Rattle.tables.specs.Settings.{setting};
 ghost use Rattle.logs.specs.Logs.{Plant};
+ghost use Rattle.logs.specs.Situations.{standing};
 ghost use Rattle.logs.specs.declared.call.Call.TheVariants.{Entitled, Roles};
-ghost use Rattle.grader.specs.Checks.{StandsSo};
-ghost use Rattle.grader.specs.Graders.{Does, Carries, over, book_of, standing_reply, roles_reply};
+ghost use Rattle.grader.specs.Checks.{facing};
+ghost use Rattle.grader.specs.Graders.{Does, Carries, over, standing_reply, roles_reply};
 
 use super::Grader;
 use super::checks::{check_panel, check_person, check_role};
-use super::lent::ruling;
 use book::Sealed;
 use kinds::Kind;
 use logs::{Refusal, Standing};
-use rules::{Entry, Policy, Rule, Seniority};
+use rules::{Entry, Policy, Rule};
 use sets::Set;
+use tables::Ruling;
 
 impl<P: Policy> Grader<P> {
     // Whether the person is entitled to the role: by rules, else by a loan, else neither.
@@ -30,31 +32,14 @@ impl<P: Policy> Grader<P> {
         check_person(person, register)?;
         check_role(role)?;
         let senior = self.senior;
-        Ok(self.standing_of::<K>(&senior, book, rules, entries, register, person, role))
+        let ruling = self.ruling::<K>(&senior, book, rules, entries, register);
+        Ok(self.standing_of(&ruling, person, role))
     }
 
     // How the person stands to the role.
-    fn standing_of<'m, K: Kind>(
-        &'m self,
-        senior: &'m Seniority,
-        book: &Sealed,
-        rules: &'m [Rule<K::Test>],
-        entries: &'m [Entry],
-        register: &'m [K::Value],
-        person: u16,
-        role: u8,
-    ) -> Standing
-        ensures by_rules_else_by_loan_else_neither { StandsSo (book_of K.meaning book.now rules.now entries.now) (P.judge self.now.policy) senior.now self.now register.now person role result }
+    fn standing_of<K: Kind>(&self, ruling: &Ruling<'_, K, P>, person: u16, role: u8) -> Standing
+        ensures by_rules_else_by_loan_else_neither { standing (facing (setting K.meaning P.judge ruling.now) self.now) person role result }
     {
-        let ruling = ruling::<K, P>(
-            book,
-            rules,
-            entries,
-            register,
-            &self.policy,
-            senior,
-            self.clock,
-        );
         if ruling.entitles(person, role) {
             return Standing::ByRules;
         }

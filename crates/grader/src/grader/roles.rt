@@ -1,20 +1,20 @@
 ghost use Rattle.std.specs.Prelude.{◌≡◌, ℕ, true, List, [], ◌∷◌, None};
 ghost use Rattle.tables.specs.Panels.{person_at, active_at};
+ghost use Rattle.tables.specs.Settings.{setting};
 ghost use Rattle.logs.specs.Logs.{Plant};
 ghost use Rattle.logs.specs.Situations.{checks, only, no_panel, no_role};
 ghost use Rattle.logs.specs.declared.refusal.Refusal.TheVariants.{PanelClosed, NotActive};
 ghost use Rattle.logs.specs.declared.call.Call.TheVariants.{Take, Drop};
 ghost use Rattle.grader.specs.Checks.{Found, GrantedSeat, Seated, StopsByVerdict, facing};
-ghost use Rattle.grader.specs.Graders.{Keeps, Does, Carries, over, book_of, reply};
+ghost use Rattle.grader.specs.Graders.{Keeps, Does, Carries, over, reply};
 
 use super::Grader;
 use super::checks::check_role;
-use super::lent::ruling;
 use book::Sealed;
 use kinds::Kind;
 use logs::Refusal;
-use rules::{Entry, Policy, Rule, Seniority, Verdict};
-use tables::Seat;
+use rules::{Entry, Policy, Rule, Verdict};
+use tables::{Ruling, Seat};
 
 impl<P: Policy> Grader<P> {
     // Makes the role active at the panel.
@@ -32,75 +32,50 @@ impl<P: Policy> Grader<P> {
         ensures carries_every_log_on { (first : List K.Value) (start : ℕ) → Carries (over K.meaning (P.judge self.old.policy) book.now rules.now entries.now first start) self.old register.now (Take panel role) (reply result) self.new register.now }
     {
         let senior = self.senior;
-        let seat = self.check_take::<K>(&senior, book, rules, entries, register, panel, role)?;
+        let ruling = self.ruling::<K>(&senior, book, rules, entries, register);
+        let seat = self.check_take(&ruling, panel, role)?;
         let taken = Seat {
-            person: seat.person,
             active: seat.active.with(role),
+            ..seat
         };
         self.panels.put(panel, Some(taken));
         Ok(())
     }
 
     // The checks of a take, in rising order, and the seat that it is granted to.
-    fn check_take<'m, K: Kind>(
-        &'m self,
-        senior: &'m Seniority,
-        book: &Sealed,
-        rules: &'m [Rule<K::Test>],
-        entries: &'m [Entry],
-        register: &'m [K::Value],
+    fn check_take<K: Kind>(
+        &self,
+        ruling: &Ruling<'_, K, P>,
         panel: u8,
         role: u8,
     ) -> Result<Seat, Refusal>
-        ensures refused_by_the_first_check_that_holds { Found (checks (facing (book_of K.meaning book.now rules.now entries.now) (P.judge self.now.policy) senior.now self.now register.now) (Take panel role)) (GrantedSeat (book_of K.meaning book.now rules.now entries.now) (P.judge self.now.policy) senior.now self.now register.now panel role) result }
+        ensures refused_by_the_first_check_that_holds { let s = setting K.meaning P.judge ruling.now in Found (checks (facing s self.now) (Take panel role)) (GrantedSeat s self.now panel role) result }
     {
         let seat = self.seat_at(panel)?;
         check_role(role)?;
         if seat.active.contains(role) {
             return Err(Refusal::AlreadyActive);
         }
-        self.check_grounds::<K>(senior, book, rules, entries, register, seat.person, role)?;
+        self.check_grounds(ruling, seat.person, role)?;
         Ok(seat)
     }
 
     // Whether the person is entitled to the role: by rules, or by a loan.
-    fn check_grounds<'m, K: Kind>(
-        &'m self,
-        senior: &'m Seniority,
-        book: &Sealed,
-        rules: &'m [Rule<K::Test>],
-        entries: &'m [Entry],
-        register: &'m [K::Value],
+    fn check_grounds<K: Kind>(
+        &self,
+        ruling: &Ruling<'_, K, P>,
         person: u16,
         role: u8,
     ) -> Result<(), Refusal>
-        ensures refused_without_grounds { StopsByVerdict (book_of K.meaning book.now rules.now entries.now) (P.judge self.now.policy) senior.now self.now register.now person role result }
+        ensures refused_without_grounds { StopsByVerdict (setting K.meaning P.judge ruling.now) self.now person role result }
     {
-        let ruling = ruling::<K, P>(
-            book,
-            rules,
-            entries,
-            register,
-            &self.policy,
-            senior,
-            self.clock,
-        );
-        let verdict = ruling.verdict(person, role);
-        let on_loan = self.loans.has(person, role);
-        match verdict {
+        if self.loans.has(person, role) {
+            return Ok(());
+        }
+        match ruling.verdict(person, role) {
             Verdict::Entitled => Ok(()),
-            Verdict::NothingGrants => {
-                if on_loan {
-                    return Ok(());
-                }
-                Err(Refusal::NothingGrants)
-            }
-            Verdict::Denied { rule } => {
-                if on_loan {
-                    return Ok(());
-                }
-                Err(Refusal::RuleDenies { rule })
-            }
+            Verdict::NothingGrants => Err(Refusal::NothingGrants),
+            Verdict::Denied { rule } => Err(Refusal::RuleDenies { rule }),
         }
     }
 }
@@ -114,8 +89,8 @@ impl<P> Grader<P> {
     {
         let seat = self.active_seat(panel, role)?;
         let left = Seat {
-            person: seat.person,
             active: seat.active.without(role),
+            ..seat
         };
         self.panels.put(panel, Some(left));
         Ok(())

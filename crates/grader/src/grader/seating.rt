@@ -1,12 +1,10 @@
 ghost use Rattle.std.specs.Prelude.{List};
-ghost use Rattle.rules.specs.declared.seniority.Seniority.{Seniority};
-ghost use Rattle.rules.specs.Policies.{Judge};
-ghost use Rattle.rules.specs.Rules.{Book};
 ghost use Rattle.logs.specs.Logs.{Plant};
 ghost use Rattle.logs.specs.Situations.{checks};
 ghost use Rattle.logs.specs.declared.call.Call.TheVariants.{Open, Close};
-ghost use Rattle.grader.specs.Checks.{Found, facing};
-ghost use Rattle.grader.specs.Graders.{Keeps, Does, Carries, reply};
+ghost use Rattle.logs.specs.Steps.{within};
+ghost use Rattle.grader.specs.Checks.{Found};
+ghost use Rattle.grader.specs.Graders.{Keeps, Does, Carries, held, reply};
 
 use super::Grader;
 use super::checks::{check_panel, check_person};
@@ -43,10 +41,10 @@ impl<P> Grader<P> {
         panel: u8,
         person: u16,
     ) -> Result<(), Refusal>
-        ensures refused_by_the_first_check_that_holds { (b : Book K.Value K.Test) (judge : Judge) (table : Seniority) → Found (checks (facing b judge table self.now register.now) (Open panel person)) (λ _. Unit {0}) result }
+        ensures refused_by_the_first_check_that_holds { (p : Plant K.Value K.Test) → Found (checks (within p self.now.senior (held self.now register.now)) (Open panel person)) (λ _. Unit {0}) result }
     {
         check_panel(panel)?;
-        if let Some(_) = self.panels.seat(panel) {
+        if self.panels.seat(panel).is_some() {
             return Err(Refusal::PanelOpen);
         }
         check_person(person, register)

@@ -1,19 +1,15 @@
-ghost use Rattle.std.specs.Prelude.{◌≡◌, ℕ, ◌⊎◌, List};
-ghost use Rattle.tables.specs.Loans.{standing, OnLoan, Filtered};
-ghost use Rattle.tables.specs.Panels.{Trimmed};
-ghost use Rattle.logs.specs.Moments.{ByTable, MayStand};
+ghost use Rattle.std.specs.Prelude.{ℕ, List};
 ghost use Rattle.logs.specs.declared.call.Call.TheVariants.{Enter, Tick};
-ghost use Rattle.grader.specs.Checks.{Settled, moment_of};
+ghost use Rattle.grader.specs.Checks.{Settled};
 ghost use Rattle.grader.specs.Graders.{Keeps, Does, Carries, over, book_of, reply};
 
 use super::Grader;
 use super::checks::{LAST_MINUTE, check_person};
-use super::lent::ruling;
 use book::Sealed;
 use kinds::Kind;
 use logs::Refusal;
-use rules::{Entry, Policy, Rule, Seniority};
-use tables::{Loans, Panels};
+use rules::{Entry, Policy, Rule};
+use tables::Ruling;
 
 impl<P: Policy> Grader<P> {
     // Replaces the person's record.
@@ -34,7 +30,7 @@ impl<P: Policy> Grader<P> {
         if !K::lawful_value(record) {
             return Err(Refusal::UnlawfulRecord);
         }
-        register[person as usize] = record;
+        register[usize::from(person)] = record;
         self.settle::<K>(book, rules, entries, register);
         Ok(())
     }
@@ -71,36 +67,16 @@ impl<P: Policy> Grader<P> {
         ensures ends_what_has_no_grounds { Settled (book_of K.meaning book.now rules.now entries.now) (P.judge self.old.policy) self.old register.now self.new }
     {
         let senior = self.senior;
-        settle_tables::<K, P>(
-            book,
-            rules,
-            entries,
+        // Not by `ruling`, which borrows the whole grader: loans and panels change while this one reads the policy.
+        let ruling = Ruling {
+            view: book.view::<K>(rules, entries),
+            policy: &self.policy,
+            senior: &senior,
             register,
-            &self.policy,
-            &senior,
-            self.clock,
-            &mut self.panels,
-            &mut self.loans,
-        );
+            clock: self.clock,
+        };
+        // Loans first: a role may rest on one.
+        self.loans.retain(&ruling);
+        self.panels.trim(&ruling, &self.loans);
     }
-}
-
-// Loans first: a role may rest on one.
-fn settle_tables<'a, K: Kind, P: Policy>(
-    book: &Sealed,
-    rules: &'a [Rule<K::Test>],
-    entries: &'a [Entry],
-    register: &'a [K::Value],
-    policy: &'a P,
-    senior: &'a Seniority,
-    clock: u32,
-    panels: &mut Panels,
-    loans: &mut Loans,
-)
-    ensures keeps_exactly_the_loans_that_may_stand { Filtered (MayStand (moment_of (book_of K.meaning book.now rules.now entries.now) (P.judge policy.now) register.now clock) senior.now) (standing loans.old) (standing loans.new) }
-    ensures keeps_exactly_the_roles_with_grounds { Trimmed (λ person role. ByTable (moment_of (book_of K.meaning book.now rules.now entries.now) (P.judge policy.now) register.now clock) senior.now person role ⊎ OnLoan (standing loans.new) person role) panels.old.seats panels.new.seats }
-{
-    let ruling = ruling::<K, P>(book, rules, entries, register, policy, senior, clock);
-    loans.retain(&ruling);
-    panels.trim(&ruling, loans);
 }

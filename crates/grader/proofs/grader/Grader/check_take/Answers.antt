@@ -1,28 +1,20 @@
+use Rattle.std.proofs.Common.{rules}
 use Rattle.std.proofs.lemmas.Result.{err_from_is_err_and}
-use Rattle.grader.specs.Graders.{book_of}
-use Rattle.grader.proofs.Finding.{take_refused, take_passes}
+use Rattle.grader.proofs.Finding.{verdict_refuses, verdict_passes}
 use Rattle.grader.proofs.grader.Grader.check_take.Goals as goal
 
 pub returns-in_err-check_grounds : goal.returns-in_err-check_grounds
 returns-in_err-check_grounds g c =
     let q = err_from_is_err_and c.from_residual-in_err-check_grounds.result c.from_residual-in_err-check_grounds.ensures.1 in
-    rw (q.1, q.2) (record {
-      refused_by_the_first_check_that_holds =
-          take_refused
-          (book_of g.K.Kind.meaning c.args.book.now c.args.rules.now c.args.entries.now) (g.P.Policy.judge c.args.self.now.policy)
-          c.args.senior.now c.args.self.now c.args.register.now c.args.panel c.in_ok-seat.seat c.in_ok-seat.ensures.finds_the_seat
-          c.args.role c.in_ok-check_role.ensures.stops_where_there_is_no_such_role
-          c.if-contains.ensures.tells_whether_it_is_a_member
-          c.in_err-check_grounds.field-0.0 c.in_err-check_grounds.ensures.refused_without_grounds;
-    })
+    rw (q.1, q.2) (
+    let refuses =
+    verdict_refuses _ c.args.self.now c.args.panel c.args.role c.in_ok-seat.seat c.in_ok-seat.ensures.finds_the_seat.1
+    c.in_err-check_grounds.field-0.0 c.in_err-check_grounds.ensures.refused_without_grounds in
+    search rules)
 
 pub returns : goal.returns
-returns g c = record {
-  refused_by_the_first_check_that_holds =
-      take_passes
-      (book_of g.K.Kind.meaning c.args.book.now c.args.rules.now c.args.entries.now) (g.P.Policy.judge c.args.self.now.policy)
-      c.args.senior.now c.args.self.now c.args.register.now c.args.panel c.in_ok-seat.seat c.in_ok-seat.ensures.finds_the_seat
-      c.args.role c.in_ok-check_role.ensures.stops_where_there_is_no_such_role
-      c.if-contains.ensures.tells_whether_it_is_a_member
-      (g.met.P.Policy.nothing_granting_is_no c.args.self.now.policy) c.in_ok-check_grounds.ensures.refused_without_grounds;
-}
+returns g c =
+    let passes =
+    verdict_passes _ c.args.self.now c.args.panel c.args.role c.in_ok-seat.seat c.in_ok-seat.ensures.finds_the_seat.1
+    (g.met.P.Policy.nothing_granting_is_no c.args.ruling.now.policy.now) c.in_ok-check_grounds.ensures.refused_without_grounds in
+    search rules
