@@ -1,5 +1,5 @@
 -- Situations in which the same holds: every call is answered alike in them.
-use Rattle.std.proofs.Common.{◌≡◌, ℕ, ◌<◌, ◌≤◌, ◌⊎◌, ◌↔◌, List, [], ◌∷◌, Some, None, Option, sym, ◌∙◌, subst, inl, inr}
+use Rattle.std.proofs.Common.{◌≡◌, ℕ, ◌<◌, ◌≤◌, ◌⊎◌, ◌↔◌, List, [], ◌∷◌, Some, None, Option, Result, sym, ◌∙◌, subst, inl, inr}
 use mathlib.Core.Logic.Iff
 use mathlib.Core.Logic.{⊎_map}
 use Rattle.std.proofs.lemmas.Bool.Decides.{Decides-like}
@@ -11,7 +11,7 @@ use Rattle.logs.specs.declared.call.Call.{Call}
 use Rattle.logs.specs.declared.call.Call.TheVariants.{Open, Close, Take, Drop, Lend, Recall, Enter, Tick, Entitled, Roles}
 use Rattle.logs.specs.declared.refusal.Refusal.{Refusal}
 use Rattle.logs.specs.declared.refusal.Refusal.TheVariants.{NotActive}
-use Rattle.logs.specs.declared.reply.Reply.{Reply}
+use Rattle.logs.specs.declared.reply.Answer.{Answer}
 use Rattle.logs.specs.declared.reply.Standing.{Standing}
 use Rattle.logs.specs.declared.reply.Standing.TheVariants.{ByRules, ByLoan, Neither}
 
@@ -38,7 +38,7 @@ data AllSame : List Check → List Check → Type 1 where
   end : AllSame [] []
   ◌also◌ : {a b : Check} {these others : List Check} → Same a b → AllSame these others → AllSame (a ∷ these) (b ∷ others)
 
-first_over : {these others : List Check} (P Q : Reply → Type 0) (r : Reply) → AllSame these others → (P r → Q r) → FirstThatHolds these P r → FirstThatHolds others Q r
+first_over : {these others : List Check} (P Q : Result Answer Refusal → Type 0) (r : Result Answer Refusal) → AllSame these others → (P r → Q r) → FirstThatHolds these P r → FirstThatHolds others Q r
 first_over P Q r end over h = over h
 first_over P Q r (same also rest) over (inl h) = inl (h.0, h.1, (same h.0).0 h.2)
 first_over P Q r (same also rest) over (inr h) = inr ((λ f holds. h.0 f ((same f).1 holds)), first_over P Q r rest over h.1)
@@ -187,7 +187,7 @@ module _ {V : Type 0} (s t : Situation V) (a : Alike s t) where
   standing_over person role ByLoan h = ((Iff.not (a.same_by_rules person role)).0 h.0, (loan_same person role).0 h.1)
   standing_over person role Neither h = λ e. h (⊎_map (a.same_by_rules person role).1 (loan_same person role).1 e)
 
-  answer_over : (call : Call V) (r : Reply) → answer s call r → answer t call r
+  answer_over : (call : Call V) (r : Result Answer Refusal) → answer s call r → answer t call r
   answer_over (Open panel person) r h = h
   answer_over (Close panel) r h = h
   answer_over (Take panel role) r h = h
@@ -200,5 +200,5 @@ module _ {V : Type 0} (s t : Situation V) (a : Alike s t) where
   answer_over (Roles panel) r h =
       (h.0, h.1, λ role. Decides-like (member h.0 role) (a.same_active panel role).0 (a.same_active panel role).1 (h.2 role))
 
-  pub answered_alike : (call : Call V) (r : Reply) → Answered s call r → Answered t call r
+  pub answered_alike : (call : Call V) (r : Result Answer Refusal) → Answered s call r → Answered t call r
   answered_alike call r = first_over (answer s call) (answer t call) r (same_checks call) (answer_over call r)

@@ -1,5 +1,5 @@
 -- A situation fixes the reply to a call, and so the calls of a log fix its replies.
-use Rattle.std.proofs.Common.{◌≡◌, ℕ, List, [], ◌∷◌, map, sym, refl, ap, ◌∙◌, subst, inl, inr}
+use Rattle.std.proofs.Common.{◌≡◌, ℕ, List, [], ◌∷◌, map, Ok, Err, Result, sym, refl, ap, ◌∙◌, subst, inl, inr}
 use mathlib.Core.List.{nil≢cons, cons≢nil}
 use Rattle.std.proofs.lemmas.Bool.{cases_order}
 use Rattle.rules.proofs.VerdictLaws.{same_holds}
@@ -10,8 +10,8 @@ use Rattle.logs.specs.declared.call.Call.{Call}
 use Rattle.logs.specs.declared.call.Call.TheVariants.{Open, Close, Take, Drop, Lend, Recall, Enter, Tick, Entitled, Roles}
 use Rattle.logs.specs.declared.exchange.Exchange.{Exchange}
 use Rattle.logs.specs.declared.refusal.Refusal.{Refusal}
-use Rattle.logs.specs.declared.reply.Reply.{Reply}
-use Rattle.logs.specs.declared.reply.Reply.TheVariants.{Refused, Stands, Active}
+use Rattle.logs.specs.declared.reply.Answer.{Answer}
+use Rattle.logs.specs.declared.reply.Answer.TheVariants.{Stands, Active}
 use Rattle.logs.specs.declared.reply.Standing.{Standing}
 use Rattle.logs.specs.declared.reply.Standing.TheVariants.{ByRules, ByLoan, Neither}
 
@@ -25,9 +25,9 @@ abbrev AllFix : List Check → Type 0
 AllFix [] = Unit {0}
 AllFix (check ∷ checks) = Fixes check × AllFix checks
 
-first_fixes : (checks : List Check) (otherwise : Reply → Type 0) → AllFix checks → ((r q : Reply) → otherwise r → otherwise q → r ≡ q) → (r q : Reply) → FirstThatHolds checks otherwise r → FirstThatHolds checks otherwise q → r ≡ q
+first_fixes : (checks : List Check) (otherwise : Result Answer Refusal → Type 0) → AllFix checks → ((r q : Result Answer Refusal) → otherwise r → otherwise q → r ≡ q) → (r q : Result Answer Refusal) → FirstThatHolds checks otherwise r → FirstThatHolds checks otherwise q → r ≡ q
 first_fixes [] otherwise fix one r q h k = one r q h k
-first_fixes (check ∷ checks) otherwise fix one r q (inl h) (inl k) = h.1 ∙ ap Refused (fix.0 h.0 k.0 h.2 k.2) ∙ sym k.1
+first_fixes (check ∷ checks) otherwise fix one r q (inl h) (inl k) = h.1 ∙ ap Err (fix.0 h.0 k.0 h.2 k.2) ∙ sym k.1
 first_fixes (check ∷ checks) otherwise fix one r q (inl h) (inr k) = absurd (k.0 h.0 h.2)
 first_fixes (check ∷ checks) otherwise fix one r q (inr h) (inl k) = absurd (h.0 k.0 k.2)
 first_fixes (check ∷ checks) otherwise fix one r q (inr h) (inr k) = first_fixes checks otherwise fix.1 one r q h.1 k.1
@@ -77,7 +77,7 @@ module _ {V : Type 0} (s : Situation V) where
   one_standing person role Neither ByLoan h k = absurd (h (inr k.1))
   one_standing person role Neither Neither h k = refl
 
-  one_answer : (call : Call V) (r q : Reply) → answer s call r → answer s call q → r ≡ q
+  one_answer : (call : Call V) (r q : Result Answer Refusal) → answer s call r → answer s call q → r ≡ q
   one_answer (Open panel person) r q h k = h ∙ sym k
   one_answer (Close panel) r q h k = h ∙ sym k
   one_answer (Take panel role) r q h k = h ∙ sym k
@@ -86,17 +86,17 @@ module _ {V : Type 0} (s : Situation V) where
   one_answer (Recall panel borrower role) r q h k = h ∙ sym k
   one_answer (Enter person value) r q h k = h ∙ sym k
   one_answer (Tick minute) r q h k = h ∙ sym k
-  one_answer (Entitled person role) r q h k = h.1 ∙ ap Stands (one_standing person role h.0 k.0 h.2 k.2) ∙ sym k.1
-  one_answer (Roles panel) r q h k = h.1 ∙ ap Active (same_holds (s.Active panel) h.0 k.0 h.2 k.2) ∙ sym k.1
+  one_answer (Entitled person role) r q h k = h.1 ∙ ap (λ how. Ok (Stands how)) (one_standing person role h.0 k.0 h.2 k.2) ∙ sym k.1
+  one_answer (Roles panel) r q h k = h.1 ∙ ap (λ set. Ok (Active set)) (same_holds (s.Active panel) h.0 k.0 h.2 k.2) ∙ sym k.1
 
-  one_reply : (call : Call V) (r q : Reply) → Answered s call r → Answered s call q → r ≡ q
+  one_reply : (call : Call V) (r q : Result Answer Refusal) → Answered s call r → Answered s call q → r ≡ q
   one_reply call = first_fixes (checks s call) (answer s call) (checks_fix call) (one_answer call)
 
 -- LOGS
 
 one_exchange : {V : Type 0} (a b : Exchange V) → a.call ≡ b.call → a.reply ≡ b.reply → a ≡ b
 one_exchange {V} a b e f =
-    let both : Call V → Reply → Exchange V = λ call r. record { call = call; reply = r } in
+    let both : Call V → Result Answer Refusal → Exchange V = λ call r. record { call = call; reply = r } in
     ap (λ call. both call a.reply) e ∙ ap (both b.call) f
 
 module _ {V S : Type 0} (p : Plant V S) where

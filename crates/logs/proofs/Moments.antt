@@ -1,5 +1,5 @@
 -- What is held agrees with a log, call after call; and who is entitled by rules then.
-use Rattle.std.proofs.Common.{◌≡◌, ℕ, false, ◌↔◌, ◌∷◌, Decides, sym, ap, ◌∙◌, subst}
+use Rattle.std.proofs.Common.{◌≡◌, ℕ, false, ◌↔◌, ◌∷◌, Ok, Decides, sym, ap, ◌∙◌, subst}
 use Rattle.std.proofs.lemmas.Bool.{cond-false}
 use Rattle.std.proofs.lemmas.Bool.Decides.{same_from_decides}
 use Rattle.rules.specs.declared.seniority.Seniority.{Seniority}
@@ -14,7 +14,7 @@ use Rattle.logs.specs.Promises.{Held, Whole, Ranks}
 use Rattle.logs.specs.Steps.{now_held, Became}
 use Rattle.logs.specs.declared.call.Call.{Call}
 use Rattle.logs.specs.declared.exchange.Exchange.{Exchange}
-use Rattle.logs.specs.declared.reply.Reply.TheVariants.{Done}
+use Rattle.logs.specs.declared.reply.Answer.TheVariants.{Done}
 
 -- a table of seniority has no part in which of the rules met grant or deny
 module _ {V S : Type 0} (m : Moment V S) (table : Seniority) (person role i : ℕ) where
@@ -68,7 +68,7 @@ module _ {V S : Type 0} (p : Plant V S) where
     }
 
   pub agrees_granted : (table : Seniority) (old : Held V) (call : Call V) (new : Held V) (log : Log V) → Became p table old call new →
-      Agrees log old → Agrees (record { call = call; reply = Done } ∷ log) new
+      Agrees log old → Agrees (record { call = call; reply = Ok Done } ∷ log) new
   agrees_granted table old call new log b a = record {
     same_clock = b.clock_set ∙ ap (clock_of call) a.same_clock;
     same_records = b.records_set ∙ ap (records_of call) a.same_records;

@@ -1,5 +1,5 @@
 -- What each granted call makes of the active roles.
-use Rattle.std.proofs.Common.{◌≡◌, ℕ, true, false, cond, eqb, ◌↔◌, ◌∷◌, Some, None, Option, sym, refl, ap, ◌∙◌, subst₂, inl, inr, arith}
+use Rattle.std.proofs.Common.{◌≡◌, ℕ, true, false, cond, eqb, ◌↔◌, ◌∷◌, Some, None, Option, Ok, Err, Result, sym, refl, ap, ◌∙◌, subst₂, inl, inr, arith}
 use Rattle.std.proofs.lemmas.Bool.{cond-false, ne_eqb}
 use Rattle.rules.specs.declared.seniority.Seniority.{Seniority}
 use Rattle.tables.specs.declared.loan.Loan.{Loan}
@@ -13,15 +13,15 @@ use Rattle.logs.specs.declared.call.Call.TheVariants.{Open, Close, Take, Drop, L
 use Rattle.logs.specs.declared.exchange.Exchange.{Exchange}
 use Rattle.logs.specs.declared.refusal.Refusal.{Refusal}
 use Rattle.logs.specs.declared.refusal.Refusal.TheVariants.{PanelOpen}
-use Rattle.logs.specs.declared.reply.Reply.{Reply}
-use Rattle.logs.specs.declared.reply.Reply.TheVariants.{Done, Refused}
+use Rattle.logs.specs.declared.reply.Answer.{Answer}
+use Rattle.logs.specs.declared.reply.Answer.TheVariants.{Done}
 use Rattle.logs.proofs.CallKinds.{done, closes, takes, drops, recalls, closes_none, takes_none, drops_none, recalls_none}
 use Rattle.logs.proofs.LoanPlaces.{There}
 use Rattle.logs.proofs.LoanSteps.{stands_still}
 use Rattle.logs.proofs.Moments.{Agrees, held_is_by_rules}
 use Rattle.logs.proofs.RoleSteps.{RolesFollow, grounds_still, roles_stay, roles_trimmed}
 
-not_refused : (f : Refusal) → ◌≡◌ {A = Reply} Done (Refused f) → ⊥
+not_refused : (f : Refusal) → ◌≡◌ {A = Result Answer Refusal} (Ok Done) (Err f) → ⊥
 not_refused f e = let z : ◌≡◌ {A = ℕ} 0 1 = cc in let y : ⊥ = omega arith in y
 
 elsewhere : (panel at : ℕ) (here there : Option ℕ) → (at ≡ panel → ⊥) → cond (eqb panel at) here there ≡ there
@@ -50,7 +50,7 @@ module _ {V S : Type 0} (p : Plant V S) (table : Seniority) where
     )
 
   -- a panel is opened only where nobody is
-  nobody_there : (old : Held V) (panel person who : ℕ) → Answered (within p table old) (Open panel person) Done → person_at old.panels panel ≡ Some who → ⊥
+  nobody_there : (old : Held V) (panel person who : ℕ) → Answered (within p table old) (Open panel person) (Ok Done) → person_at old.panels panel ≡ Some who → ⊥
   nobody_there old panel person who (inl w) there = not_refused w.0 w.1
   nobody_there old panel person who (inr (_, inl w)) there = not_refused w.0 w.1
   nobody_there old panel person who (inr (_, inr (closed, _))) there = closed PanelOpen (refl, record { person = who; seated = there; holds = tt })
@@ -86,7 +86,7 @@ module _ {V S : Type 0} (p : Plant V S) (table : Seniority) where
       trimmed now stand = roles_trimmed p (done call) log (takes_none p call log no_take) (drops_none p call log no_drop) (closes_none p call log no_close)
           old.panels (SeatHasGrounds p table new) (seat_grounds_are led.ranks (done call ∷ log) new now stand)
 
-    opened : (panel person : ℕ) → Answered (within p table old) (Open panel person) Done → Follow (Open panel person)
+    opened : (panel person : ℕ) → Answered (within p table old) (Open panel person) (Ok Done) → Follow (Open panel person)
     opened panel person answered = record {
       taken = λ at role took. absurd (takes_none p call log refl at role took);
       taken_or_kept = λ at role b. inr (b.1, drops_none p call log refl at role, closes_none p call log refl at);
@@ -144,7 +144,7 @@ module _ {V S : Type 0} (p : Plant V S) (table : Seniority) where
         call = Drop panel role
 
     pub roles_granted : (call : Call V) → Agrees p (done call ∷ log) new → ((loan : Loan) → There new.loans loan ↔ StandsAfter p (done call ∷ log) loan) →
-        Answered (within p table old) call Done → LoansBecome p table old call new →
+        Answered (within p table old) call (Ok Done) → LoansBecome p table old call new →
         RolesFollow p (done call) log old.panels (RolesBecome p table old call new)
     roles_granted (Open panel person) now stand answered loans = opened panel person answered
     roles_granted (Close panel) now stand answered loans = closed panel
