@@ -16,6 +16,3 @@ module _ {V S P : Type 0} (over : P → Plant V S) where
       let now : Led (over first) (e ∷ reverse (take i log)) table new =
       subst (λ q. Led (over q) (e ∷ reverse (take i log)) table new) same (carries (subst (λ q. Led (over q) (reverse (take i log)) table old) (sym same) led)) in
       subst₂ (λ done t. Led (over first) done t new) (sym (run_more log i e within)) (sym stays) now
-
-  pub all_turned : (log done : List (Exchange V)) (policy first : P) (table : Seniority) (held : Held V) → policy ≡ first → done ≡ log → Led (over policy) (reverse done) table held → Whole (over first) (reverse log) held
-  all_turned log done policy first table held same all led = subst₂ (λ q l. Whole (over q) (reverse l) held) same all led.whole

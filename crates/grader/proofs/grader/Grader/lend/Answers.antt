@@ -1,11 +1,11 @@
-use Rattle.std.proofs.Common.{◌≡◌, ℕ, ◌+◌, List, refl, arith}
+use Rattle.std.proofs.Common.{◌≡◌, ℕ, ◌+◌, List, refl, arith, Ok}
 use Rattle.std.proofs.lemmas.Result.{err_from_is_err_and}
 use Rattle.logs.proofs.Carrying.{carries}
 use Rattle.grader.proofs.CheckLaws.{refused, done}
 use Rattle.grader.proofs.Granting.{with_loans, lends}
 use Rattle.logs.specs.declared.call.Call.TheVariants.{Lend}
 use Rattle.tables.specs.Loans.{standing}
-use Rattle.logs.specs.declared.reply.Reply.TheVariants.{Done}
+use Rattle.logs.specs.declared.reply.Answer.TheVariants.{Done}
 use Rattle.logs.specs.Steps.{Performed}
 use Rattle.grader.specs.Graders.{plant, book_of, held}
 use Rattle.grader.proofs.grader.Grader.lend.Goals as goal
@@ -28,7 +28,7 @@ returns g c =
     let found = c.in_ok-lender.ensures.refused_by_the_first_check_that_holds in
     let added = c.add.ensures.added_at_the_end_where_there_is_room in
     let later : c.from.result + c.from-2.result ≡ old.clock + c.args.minutes = omega (arith, c.from.ensures, c.from-2.ensures) in
-    let performed : (first : List g.row.K-Value.Denot) (start : ℕ) → Performed (plant (book_of g.K.Kind.meaning c.args.book.now c.args.rules.now c.args.entries.now) (g.P.Policy.judge old.policy) first start) old.senior (held old vs) (Lend c.args.panel c.args.borrower c.args.role c.args.minutes) Done (with_loans (plant (book_of g.K.Kind.meaning c.args.book.now c.args.rules.now c.args.entries.now) (g.P.Policy.judge old.policy) first start) old.senior (held old vs) (standing c.add.new.self)) =
+    let performed : (first : List g.row.K-Value.Denot) (start : ℕ) → Performed (plant (book_of g.K.Kind.meaning c.args.book.now c.args.rules.now c.args.entries.now) (g.P.Policy.judge old.policy) first start) old.senior (held old vs) (Lend c.args.panel c.args.borrower c.args.role c.args.minutes) (Ok Done) (with_loans (plant (book_of g.K.Kind.meaning c.args.book.now c.args.rules.now c.args.entries.now) (g.P.Policy.judge old.policy) first start) old.senior (held old vs) (standing c.add.new.self)) =
     λ first start.
     let p = plant (book_of g.K.Kind.meaning c.args.book.now c.args.rules.now c.args.entries.now) (g.P.Policy.judge old.policy) first start in
     done p old.senior (held old vs) (Lend c.args.panel c.args.borrower c.args.role c.args.minutes) _ refl found.0

@@ -1,10 +1,10 @@
-use Rattle.std.proofs.Common.{refl}
+use Rattle.std.proofs.Common.{refl, Ok}
 use Rattle.std.proofs.lemmas.Result.{err_from_is_err_and}
 use Rattle.logs.proofs.Carrying.{carries}
 use Rattle.grader.proofs.CheckLaws.{refused, done, panel_there}
 use Rattle.grader.proofs.Granting.{with_seats, opens}
 use Rattle.logs.specs.declared.call.Call.TheVariants.{Open}
-use Rattle.logs.specs.declared.reply.Reply.TheVariants.{Done}
+use Rattle.logs.specs.declared.reply.Answer.TheVariants.{Done}
 use Rattle.logs.specs.Logs.{Plant}
 use Rattle.grader.specs.Graders.{held}
 use Rattle.logs.specs.Steps.{Performed}
@@ -25,7 +25,7 @@ pub returns : goal.returns
 returns g c =
     let old = c.args.self.now in
     let passes = c.in_ok-check_open.ensures.refused_by_the_first_check_that_holds in
-    let performed : (p : Plant g.row.K-Value.Denot g.row.K-Test.Denot) → Performed p old.senior (held old c.args.register.now) (Open c.args.panel c.args.person) Done (with_seats p old.senior (held old c.args.register.now) c.put.new.self.seats) =
+    let performed : (p : Plant g.row.K-Value.Denot g.row.K-Test.Denot) → Performed p old.senior (held old c.args.register.now) (Open c.args.panel c.args.person) (Ok Done) (with_seats p old.senior (held old c.args.register.now) c.put.new.self.seats) =
     λ p.
     let passed = (passes p.book p.judge old.senior).0 in
     done p old.senior (held old c.args.register.now) (Open c.args.panel c.args.person) _ refl passed
