@@ -1,5 +1,5 @@
 -- A situation fixes the reply to a call, and so the calls of a log fix its replies.
-use Rattle.std.proofs.Common.{◌≡◌, ℕ, List, [], ◌∷◌, map, Ok, Err, Result, sym, refl, ap, ◌∙◌, subst, inl, inr}
+use Rattle.std.proofs.Common.{◌≡◌, ℕ, List, [], ◌∷◌, map, Ok, Err, Result, sym, refl, ap, ap₂, ◌∙◌, subst, inl, inr, rules}
 use mathlib.Core.List.{nil≢cons, cons≢nil}
 use Rattle.std.proofs.lemmas.Bool.{cases_order}
 use Rattle.rules.proofs.VerdictLaws.{same_holds}
@@ -39,8 +39,7 @@ rule_fixes : {name : ℕ → Refusal} {P : ℕ → Type 0} → ((i j : ℕ) → 
 rule_fixes {name} one f g a b = a.1 ∙ ap name (one a.0 b.0 a.2 b.2) ∙ sym b.1
 
 one_lowest : (In : ℕ → Type 0) (i j : ℕ) → Lowest In i → Lowest In j → i ≡ j
-one_lowest In i j a b =
-    elim (cases_order i j) [ inl same ↦ same | inr (inl lt) ↦ absurd (b.none_lower i lt a.held) | inr (inr lt) ↦ absurd (a.none_lower j lt b.held) ]
+one_lowest In i j a b = search rules
 
 module _ {V : Type 0} (s : Situation V) where
   one_overruled : (panel role i j : ℕ) → AtSeat s panel (Overruled s role i) → AtSeat s panel (Overruled s role j) → i ≡ j
@@ -50,44 +49,29 @@ module _ {V : Type 0} (s : Situation V) where
       let same : a.person ≡ b.person = cc in
       one_lowest (s.DeniedBy b.person role) i j (subst (λ who. Lowest (s.DeniedBy who role) i) same a.holds.lowest) b.holds.lowest
 
+  ruleset fixing = (only_fixes, rule_fixes, one_lowest, one_overruled)
+
   checks_fix : (call : Call V) → AllFix (checks s call)
-  checks_fix (Open panel person) = (only_fixes, (only_fixes, (only_fixes, tt)))
-  checks_fix (Close panel) = (only_fixes, (only_fixes, tt))
-  checks_fix (Take panel role) =
-      (only_fixes, (only_fixes, (only_fixes, (only_fixes, (only_fixes, (rule_fixes (one_overruled panel role), tt))))))
-  checks_fix (Drop panel role) = (only_fixes, (only_fixes, (only_fixes, (only_fixes, tt))))
-  checks_fix (Lend panel borrower role minutes) =
-      (only_fixes, (only_fixes, (only_fixes, (only_fixes, (only_fixes, (only_fixes, (only_fixes, (only_fixes, (only_fixes, (rule_fixes (one_lowest (s.DeniedBy borrower role)), (only_fixes, tt)))))))))))
-  checks_fix (Recall panel borrower role) = (only_fixes, (only_fixes, (only_fixes, (only_fixes, (only_fixes, (only_fixes, tt))))))
-  checks_fix (Enter person value) = (only_fixes, (only_fixes, tt))
-  checks_fix (Tick minute) = (only_fixes, tt)
-  checks_fix (Entitled person role) = (only_fixes, (only_fixes, tt))
-  checks_fix (Roles panel) = (only_fixes, tt)
+  checks_fix (Open panel person) = search fixing
+  checks_fix (Close panel) = search fixing
+  checks_fix (Take panel role) = search fixing parts 20
+  checks_fix (Drop panel role) = search fixing
+  checks_fix (Lend panel borrower role minutes) = search fixing parts 20
+  checks_fix (Recall panel borrower role) = search fixing parts 20
+  checks_fix (Enter person value) = search fixing
+  checks_fix (Tick minute) = search fixing
+  checks_fix (Entitled person role) = search fixing
+  checks_fix (Roles panel) = search fixing
 
   -- ANSWERS
 
   one_standing : (person role : ℕ) (a b : Standing) → standing s person role a → standing s person role b → a ≡ b
-  one_standing person role ByRules ByRules h k = refl
-  one_standing person role ByRules ByLoan h k = absurd (k.0 h)
-  one_standing person role ByRules Neither h k = absurd (k (inl h))
-  one_standing person role ByLoan ByRules h k = absurd (h.0 k)
-  one_standing person role ByLoan ByLoan h k = refl
-  one_standing person role ByLoan Neither h k = absurd (k (inr h.1))
-  one_standing person role Neither ByRules h k = absurd (h (inl k))
-  one_standing person role Neither ByLoan h k = absurd (h (inr k.1))
-  one_standing person role Neither Neither h k = refl
+  one_standing person role a b h k = search rules
 
   one_answer : (call : Call V) (r q : Result Answer Refusal) → answer s call r → answer s call q → r ≡ q
-  one_answer (Open panel person) r q h k = h ∙ sym k
-  one_answer (Close panel) r q h k = h ∙ sym k
-  one_answer (Take panel role) r q h k = h ∙ sym k
-  one_answer (Drop panel role) r q h k = h ∙ sym k
-  one_answer (Lend panel borrower role minutes) r q h k = h ∙ sym k
-  one_answer (Recall panel borrower role) r q h k = h ∙ sym k
-  one_answer (Enter person value) r q h k = h ∙ sym k
-  one_answer (Tick minute) r q h k = h ∙ sym k
   one_answer (Entitled person role) r q h k = h.1 ∙ ap (λ how. Ok (Stands how)) (one_standing person role h.0 k.0 h.2 k.2) ∙ sym k.1
   one_answer (Roles panel) r q h k = h.1 ∙ ap (λ set. Ok (Active set)) (same_holds (s.Active panel) h.0 k.0 h.2 k.2) ∙ sym k.1
+  one_answer call r q h k = search rules
 
   one_reply : (call : Call V) (r q : Result Answer Refusal) → Answered s call r → Answered s call q → r ≡ q
   one_reply call = first_fixes (checks s call) (answer s call) (checks_fix call) (one_answer call)
@@ -95,9 +79,7 @@ module _ {V : Type 0} (s : Situation V) where
 -- LOGS
 
 one_exchange : {V : Type 0} (a b : Exchange V) → a.call ≡ b.call → a.reply ≡ b.reply → a ≡ b
-one_exchange {V} a b e f =
-    let both : Call V → Result Answer Refusal → Exchange V = λ call r. record { call = call; reply = r } in
-    ap (λ call. both call a.reply) e ∙ ap (both b.call) f
+one_exchange {V} a b = ap₂ (λ (call : Call V) (reply : Result Answer Refusal). record { call = call; reply = reply })
 
 module _ {V S : Type 0} (p : Plant V S) where
   answered_before : (e : Exchange V) (log : Log V) → AllAnswered p (e ∷ log) → AllAnswered p log
