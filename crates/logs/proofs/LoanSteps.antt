@@ -1,5 +1,5 @@
 -- What one call makes of the loans: those that are there are those that stand after the log with that call.
-use Rattle.std.proofs.Common.{◌≡◌, ◌⊎◌, ◌↔◌, List, [], ◌∷◌, ◌++◌, sym, ap, ◌∙◌, subst, inl, inr, ⊎_elim, arith}
+use Rattle.std.proofs.Common.{◌≡◌, ◌⊎◌, ◌↔◌, List, [], ◌∷◌, ◌++◌, sym, ap, ◌∙◌, subst, inl, inr, ⊎_elim, arith, rules}
 use Rattle.std.proofs.lemmas.Bool.{cases_lt}
 use Rattle.rules.specs.declared.seniority.Seniority.{Seniority}
 use Rattle.tables.specs.declared.loan.Loan.{Loan}
@@ -17,10 +17,7 @@ abbrev pub SameLending : Loan → Loan → Type 0
 SameLending a b = Lent a b.borrower b.role
 
 turned : {a b x : Loan} → x ≡ a → SameLending a b → SameLending b x
-turned same alike = record {
-  to_person = sym alike.to_person ∙ ap (λ l. l.borrower) (sym same);
-  of_role = sym alike.of_role ∙ ap (λ l. l.role) (sym same);
-}
+turned same alike = search rules
 
 module _ {V S : Type 0} (p : Plant V S) (table : Seniority) (e : Exchange V) (log : Log V) where
   abbrev MayStandNow : Loan → Type 0

@@ -1,5 +1,5 @@
 -- What each granted call makes of the active roles.
-use Rattle.std.proofs.Common.{◌≡◌, ℕ, true, false, cond, eqb, ◌↔◌, ◌∷◌, Some, None, Option, Ok, Err, Result, sym, refl, ap, ◌∙◌, subst₂, inl, inr, arith}
+use Rattle.std.proofs.Common.{◌≡◌, ℕ, true, false, cond, eqb, ◌↔◌, ◌∷◌, Some, None, Option, Ok, Err, Result, sym, refl, ap, ◌∙◌, subst₂, inl, inr, arith, rules}
 use Rattle.std.proofs.lemmas.Bool.{cond-false, ne_eqb}
 use Rattle.rules.specs.declared.seniority.Seniority.{Seniority}
 use Rattle.tables.specs.declared.loan.Loan.{Loan}
@@ -21,11 +21,8 @@ use Rattle.logs.proofs.LoanSteps.{stands_still}
 use Rattle.logs.proofs.Moments.{Agrees, held_is_by_rules}
 use Rattle.logs.proofs.RoleSteps.{RolesFollow, grounds_still, roles_stay, roles_trimmed}
 
-not_refused : (f : Refusal) → ◌≡◌ {A = Result Answer Refusal} (Ok Done) (Err f) → ⊥
-not_refused f e = let z : ◌≡◌ {A = ℕ} 0 1 = cc in let y : ⊥ = omega arith in y
-
 elsewhere : (panel at : ℕ) (here there : Option ℕ) → (at ≡ panel → ⊥) → cond (eqb panel at) here there ≡ there
-elsewhere panel at here there apart = cond-false (eqb panel at) here there (ne_eqb panel at (λ q. apart (sym q)))
+elsewhere panel at here there apart = search rules
 
 module _ {V S : Type 0} (p : Plant V S) (table : Seniority) where
   -- who is entitled is read off what is held
@@ -44,16 +41,11 @@ module _ {V S : Type 0} (p : Plant V S) (table : Seniority) where
     )
 
     seat_grounds_are : (at role : ℕ) → SeatHasGrounds p table held at role ↔ SeatEntitled p log at role
-    seat_grounds_are at role = (
-      (λ g. (g.person, sym (agrees.same_persons at) ∙ g.there, (grounds_are g.person role).0 g.grounds)),
-      (λ s. record { person = s.0; there = agrees.same_persons at ∙ s.1; grounds = (grounds_are s.0 role).1 s.2 }),
-    )
+    seat_grounds_are at role = search (rules, grounds_are, agrees.same_persons)
 
   -- a panel is opened only where nobody is
   nobody_there : (old : Held V) (panel person who : ℕ) → Answered (within p table old) (Open panel person) (Ok Done) → person_at old.panels panel ≡ Some who → ⊥
-  nobody_there old panel person who (inl w) there = not_refused w.0 w.1
-  nobody_there old panel person who (inr (_, inl w)) there = not_refused w.0 w.1
-  nobody_there old panel person who (inr (_, inr (closed, _))) there = closed PanelOpen (refl, record { person = who; seated = there; holds = tt })
+  nobody_there old panel person who answered there = search rules
 
   module _ (old new : Held V) (log : Log V) (led : Led p log table old) (before : Agrees p log old) where
     owned : (at role : ℕ) → active_at old.panels at role ≡ true → SeatEntitled p log at role
