@@ -1,5 +1,5 @@
 -- What each granted call makes of the loans.
-use Rattle.std.proofs.Common.{◌≡◌, ℕ, ◌+◌, false, ◌↔◌, ◌∷◌, Some, sym, refl, ap, ◌∙◌, subst}
+use Rattle.std.proofs.Common.{◌≡◌, ℕ, ◌+◌, false, ◌↔◌, ◌∷◌, Some, sym, refl, ap, ◌∙◌, subst, rules}
 use Rattle.rules.specs.declared.seniority.Seniority.{Seniority}
 use Rattle.tables.specs.declared.loan.Loan.{Loan}
 use Rattle.tables.specs.Loans.{Lent, Filtered}
@@ -74,12 +74,7 @@ module _ {V S : Type 0} (p : Plant V S) (table : Seniority) (old new : Held V) (
   all_swept call no-lend no-recall now = swept call no-lend now (MayStand (now_held p new) table) (λ loan. ((λ m. (recalls_none p call log no-recall loan, m)), (λ w. w.1)))
 
   recalled : (panel borrower role : ℕ) (loan : Loan) → Recalled p loan (done (Recall panel borrower role) ∷ log) ↔ Lent loan borrower role
-  recalled panel borrower role loan = (
-    (λ r.
-        let same : ◌≡◌ {A = Call V} (Recall panel borrower role) (Recall r.0 loan.borrower loan.role) = r.1 in
-        record { to_person = cc; of_role = cc }),
-    (λ lent. (panel, cc, refl)),
-  )
+  recalled panel borrower role loan = search rules
 
   pub loans_granted : (call : Call V) → Agrees p (done call ∷ log) new → LoansBecome p table old call new →
       LoansFollow p table (done call) log old.loans new.loans

@@ -49,7 +49,7 @@ module _ {V S : Type 0} (p : Plant V S) (table : Seniority) where
 
   module _ (old new : Held V) (log : Log V) (led : Led p log table old) (before : Agrees p log old) where
     owned : (at role : ℕ) → active_at old.panels at role ≡ true → SeatEntitled p log at role
-    owned at role active = led.whole.active_role_has_its_grounds at role ((led.whole.role_active_exactly_since_its_take at role).0 active)
+    owned at role active = search (rules, led.whole.active_role_has_its_grounds, led.whole.role_active_exactly_since_its_take)
 
     -- a call that recalls nothing, and changes neither the clock nor a record
     module _ (e : Exchange V) (unrecalled : (loan : Loan) → Recalled p loan (e ∷ log) → ⊥)
@@ -80,24 +80,21 @@ module _ {V S : Type 0} (p : Plant V S) (table : Seniority) where
 
     opened : (panel person : ℕ) → Answered (within p table old) (Open panel person) (Ok Done) → Follow (Open panel person)
     opened panel person answered = record {
-      taken = λ at role took. absurd (takes_none p call log refl at role took);
-      taken_or_kept = λ at role b. inr (b.1, drops_none p call log refl at role, closes_none p call log refl at);
+      taken = λ at role took. search rules;
+      taken_or_kept = λ at role b. search rules;
       has_grounds = λ at role b. kept_grounds (done call) (recalls_none p call log refl) refl at role (elsewhere panel at (Some person) (seat p log at) b.0) (owned at role b.1);
-      kept_unless_ended = λ at role active _ _ _ left. left (λ here. closed_before here (owned at role active), active);
+      kept_unless_ended = λ at role active _ _ _ left. search (rules, owned, nobody_there);
     }
       where
         call : Call V
         call = Open panel person
 
-        closed_before : {at role : ℕ} → at ≡ panel → SeatEntitled p log at role → ⊥
-        closed_before here grounds = nobody_there old panel person grounds.0 answered (before.same_persons panel ∙ ap (seat p log) (sym here) ∙ grounds.1)
-
     closed : (panel : ℕ) → Follow (Close panel)
     closed panel = record {
-      taken = λ at role took. absurd (takes_none p call log refl at role took);
-      taken_or_kept = λ at role b. inr (b.1, drops_none p call log refl at role, λ c. let same : ◌≡◌ {A = Call V} (Close panel) (Close at) = c.0 in b.0 (cc));
+      taken = λ at role took. search rules;
+      taken_or_kept = λ at role b. search rules;
       has_grounds = λ at role b. kept_grounds (done call) (recalls_none p call log refl) refl at role (elsewhere panel at None (seat p log at) b.0) (owned at role b.1);
-      kept_unless_ended = λ at role active _ unclosed _ left. left (λ here. unclosed (ap Close (sym here), refl), active);
+      kept_unless_ended = λ at role active _ unclosed _ left. search rules;
     }
       where
         call : Call V
@@ -105,17 +102,10 @@ module _ {V S : Type 0} (p : Plant V S) (table : Seniority) where
 
     taken : (panel role : ℕ) → SeatHasGrounds p table old panel role → Follow (Take panel role)
     taken panel role grounds = record {
-      taken = λ at r took. let same : ◌≡◌ {A = Call V} (Take panel role) (Take at r) = took.0 in inl (cc, cc);
-      taken_or_kept = λ at r. elim [
-        | inl w ↦ let here = w.0 in let this = w.1 in inl (cc, refl)
-        | inr active ↦ inr (active, drops_none p call log refl at r, closes_none p call log refl at)
-      ];
-      has_grounds = λ at r. elim [
-        | inl w ↦ subst₂ (SeatEntitled p (done call ∷ log)) (sym w.0) (sym w.1)
-            (kept panel role ((seat_grounds_are led.ranks log old before led.whole.loan_stands_exactly_since_its_lend panel role).0 grounds))
-        | inr active ↦ kept at r (owned at r active)
-      ];
-      kept_unless_ended = λ at r active _ _ _ left. left (inr active);
+      taken = λ at r took. search rules;
+      taken_or_kept = λ at r b. search rules;
+      has_grounds = λ at r. elim [ inl w ↦ rw (w.0, w.1) here | inr active ↦ kept at r (owned at r active) ];
+      kept_unless_ended = λ at r active _ _ _ left. search rules;
     }
       where
         call : Call V
@@ -124,12 +114,15 @@ module _ {V S : Type 0} (p : Plant V S) (table : Seniority) where
         kept : (at r : ℕ) → SeatEntitled p log at r → SeatEntitled p (done call ∷ log) at r
         kept at r = kept_grounds (done call) (recalls_none p call log refl) refl at r refl
 
+        here : SeatEntitled p (done call ∷ log) panel role
+        here = kept panel role ((seat_grounds_are led.ranks log old before led.whole.loan_stands_exactly_since_its_lend panel role).0 grounds)
+
     dropped : (panel role : ℕ) → Follow (Drop panel role)
     dropped panel role = record {
-      taken = λ at r took. absurd (takes_none p call log refl at r took);
-      taken_or_kept = λ at r b. inr (b.1, λ d. let same : ◌≡◌ {A = Call V} (Drop panel role) (Drop at r) = d.0 in b.0 (cc, cc), closes_none p call log refl at);
+      taken = λ at r took. search rules;
+      taken_or_kept = λ at r b. search rules;
       has_grounds = λ at r b. kept_grounds (done call) (recalls_none p call log refl) refl at r refl (owned at r b.1);
-      kept_unless_ended = λ at r active undropped _ _ left. left (λ w. let here = w.0 in let this = w.1 in undropped (cc, refl), active);
+      kept_unless_ended = λ at r active undropped _ _ left. search rules;
     }
       where
         call : Call V
