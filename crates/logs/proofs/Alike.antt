@@ -1,19 +1,15 @@
 -- Situations in which the same holds: every call is answered alike in them.
-use Rattle.std.proofs.Common.{◌≡◌, ℕ, ◌<◌, ◌≤◌, ◌⊎◌, ◌↔◌, List, [], ◌∷◌, Some, None, Option, Result, sym, ◌∙◌, subst, inl, inr, rules}
-use mathlib.Core.Logic.Iff
-use mathlib.Core.Logic.{⊎_map}
+use Rattle.std.proofs.Common.{◌≡◌, ℕ, ◌↔◌, List, [], ◌∷◌, Result, inl, inr, rules}
 use Rattle.std.proofs.lemmas.Bool.Decides.{Decides-like}
 use Rattle.sets.specs.Members.{member}
 use Rattle.tables.specs.declared.loan.Loan.{Loan}
 use Rattle.tables.specs.Verdicts.{Lowest}
-use Rattle.logs.specs.Situations.{Situation, Check, only, FirstThatHolds, OnLoan, AtSeat, Overruled, Ungranted, closed_panel, no_person, not_by_rules, checks, standing, answer, Answered}
+use Rattle.logs.specs.Situations.{Situation, Check, only, FirstThatHolds, OnLoan, AtSeat, Overruled, Ungranted, checks, standing, answer, Answered}
 use Rattle.logs.specs.declared.call.Call.{Call}
 use Rattle.logs.specs.declared.call.Call.TheVariants.{Open, Close, Take, Drop, Lend, Recall, Enter, Tick, Entitled, Roles}
 use Rattle.logs.specs.declared.refusal.Refusal.{Refusal}
-use Rattle.logs.specs.declared.refusal.Refusal.TheVariants.{NotActive}
 use Rattle.logs.specs.declared.reply.Answer.{Answer}
 use Rattle.logs.specs.declared.reply.Standing.{Standing}
-use Rattle.logs.specs.declared.reply.Standing.TheVariants.{ByRules, ByLoan, Neither}
 
 pub record Alike {V : Type 0} (s t : Situation V) : Type 0 where
   pub same_clock : s.clock ≡ t.clock

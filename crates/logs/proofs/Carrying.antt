@@ -1,6 +1,6 @@
 -- One call carries any log on: whatever led to what was held before it leads, with that call, to what is held after it.
-use Rattle.std.proofs.Common.{◌≡◌, ℕ, true, false, ◌↔◌, [], ◌∷◌, length, Ok, Err, Result, Decides, sym, refl, ap, ◌∙◌, subst, subst₂}
-use mathlib.Core.List.{head-eq_of_cons-eq, tail-eq_of_cons-eq}
+use Rattle.std.proofs.Common.{◌≡◌, ℕ, true, false, ◌↔◌, [], ◌∷◌, length, Ok, Err, Result, Decides, sym, refl, ap, ◌∙◌, subst, rules}
+use mathlib.Core.List.{tail-eq_of_cons-eq}
 use Rattle.std.proofs.lemmas.Bool.{both_ways}
 use Rattle.rules.specs.declared.seniority.Seniority.{Seniority}
 use Rattle.tables.specs.declared.loan.Loan.{Loan}
@@ -25,8 +25,8 @@ use Rattle.logs.proofs.RoleSteps.{RolesFollow, roles_active, roles_grounded}
 
 module _ {V S : Type 0} (p : Plant V S) where
   answered_more : (e : Exchange V) (log : Log V) → AllAnswered p log → Answered (after p log) e.call e.reply → AllAnswered p (e ∷ log)
-  answered_more e log all now [] before d cut = subst₂ (λ l x. Answered (after p l) x.call x.reply) (tail-eq_of_cons-eq cut) (head-eq_of_cons-eq cut) now
-  answered_more e log all now (x ∷ later) before d cut = all later before d (tail-eq_of_cons-eq cut)
+  answered_more e log all now [] before d cut = search rules
+  answered_more e log all now (x ∷ later) before d cut = search (rules, tail-eq_of_cons-eq)
 
   module _ (table : Seniority) (old : Held V) (log : Log V) (led : Led p log table old) where
     agreed : Agrees p log old

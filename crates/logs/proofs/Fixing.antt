@@ -1,7 +1,6 @@
 -- A situation fixes the reply to a call, and so the calls of a log fix its replies.
 use Rattle.std.proofs.Common.{◌≡◌, ℕ, List, [], ◌∷◌, map, Ok, Err, Result, sym, refl, ap, ap₂, ◌∙◌, subst, inl, inr, rules}
 use mathlib.Core.List.{nil≢cons, cons≢nil}
-use Rattle.std.proofs.lemmas.Bool.{cases_order}
 use Rattle.rules.proofs.VerdictLaws.{same_holds}
 use Rattle.tables.specs.Verdicts.{Lowest}
 use Rattle.logs.specs.Logs.{Plant, Log, after, AllAnswered}
@@ -13,7 +12,6 @@ use Rattle.logs.specs.declared.refusal.Refusal.{Refusal}
 use Rattle.logs.specs.declared.reply.Answer.{Answer}
 use Rattle.logs.specs.declared.reply.Answer.TheVariants.{Stands, Active}
 use Rattle.logs.specs.declared.reply.Standing.{Standing}
-use Rattle.logs.specs.declared.reply.Standing.TheVariants.{ByRules, ByLoan, Neither}
 
 -- CHECKS
 

@@ -52,16 +52,7 @@ module _ {V S : Type 0} (p : Plant V S) (table : Seniority) (old new : Held V) (
       due = ap (λ n. n + minutes) before.same_clock
 
       only : (loan : Loan) → MadeBy p loan (done (Lend panel borrower role minutes) ∷ log) → x ≡ loan
-      only loan made =
-          let same : ◌≡◌ {A = Call V} (Lend panel borrower role minutes) (Lend made.0 loan.borrower loan.role made.1) = made.2 in
-          let at : panel ≡ made.0 = cc in
-          let long : minutes ≡ made.1 = cc in
-          let by : Some l.lender ≡ Some loan.lender = sym seated ∙ ap (seat p log) at ∙ made.4 in
-          let a : l.lender ≡ loan.lender = cc in
-          let b : borrower ≡ loan.borrower = cc in
-          let c : role ≡ loan.role = cc in
-          let d : old.clock + minutes ≡ loan.due = due ∙ ap (λ n. clock p log + n) long ∙ sym made.5 in
-          λ i. record { lender = a i; borrower = b i; role = c i; due = d i }
+      only loan made = search rules
 
   swept : (call : Call V) → lends call ≡ false → Agrees p (done call ∷ log) new → (P : Loan → Type 0) →
       ((loan : Loan) → P loan ↔ ((Recalled p loan (done call ∷ log) → ⊥) × MayStand (now_held p new) table loan)) →

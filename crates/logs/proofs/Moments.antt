@@ -1,6 +1,5 @@
 -- What is held agrees with a log, call after call; and who is entitled by rules then.
-use Rattle.std.proofs.Common.{◌≡◌, ℕ, false, ◌↔◌, ◌∷◌, Ok, Decides, sym, ap, ◌∙◌, subst, rules}
-use Rattle.std.proofs.lemmas.Bool.{cond-false}
+use Rattle.std.proofs.Common.{◌≡◌, ℕ, false, ◌↔◌, ◌∷◌, Ok, Decides, sym, subst, rules}
 use Rattle.std.proofs.lemmas.Bool.Decides.{same_from_decides}
 use Rattle.rules.specs.declared.seniority.Seniority.{Seniority}
 use Rattle.rules.specs.Ranks.{is_senior}
@@ -9,7 +8,7 @@ use Rattle.rules.proofs.VerdictLaws.{same_table}
 use Rattle.tables.specs.Panels.{person_at}
 use Rattle.tables.specs.Settings.{GrantedBy as GrantedIn, DeniedBy as DeniedIn}
 use Rattle.logs.specs.Moments.{Moment, GrantedBy, DeniedBy, ByRules, ByTable, by}
-use Rattle.logs.specs.Logs.{Plant, Log, granted, clock_of, records_of, seat_of, clock, records, seat, moment}
+use Rattle.logs.specs.Logs.{Plant, Log, granted, clock, records, seat, moment}
 use Rattle.logs.specs.Promises.{Held, Whole, Ranks}
 use Rattle.logs.specs.Steps.{now_held, Became}
 use Rattle.logs.specs.declared.call.Call.{Call}

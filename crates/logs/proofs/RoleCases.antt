@@ -1,6 +1,5 @@
 -- What each granted call makes of the active roles.
-use Rattle.std.proofs.Common.{◌≡◌, ℕ, true, false, cond, eqb, ◌↔◌, ◌∷◌, Some, None, Option, Ok, Err, Result, sym, refl, ap, ◌∙◌, subst₂, inl, inr, arith, rules}
-use Rattle.std.proofs.lemmas.Bool.{cond-false, ne_eqb}
+use Rattle.std.proofs.Common.{◌≡◌, ℕ, true, false, cond, eqb, ◌↔◌, ◌∷◌, Some, None, Option, Ok, refl, inl, inr, rules}
 use Rattle.rules.specs.declared.seniority.Seniority.{Seniority}
 use Rattle.tables.specs.declared.loan.Loan.{Loan}
 use Rattle.tables.specs.Panels.{person_at, active_at}
@@ -11,9 +10,6 @@ use Rattle.logs.specs.Steps.{within, Grounds, SeatHasGrounds, RolesBecome, Loans
 use Rattle.logs.specs.declared.call.Call.{Call}
 use Rattle.logs.specs.declared.call.Call.TheVariants.{Open, Close, Take, Drop, Lend, Recall, Enter, Tick, Entitled, Roles}
 use Rattle.logs.specs.declared.exchange.Exchange.{Exchange}
-use Rattle.logs.specs.declared.refusal.Refusal.{Refusal}
-use Rattle.logs.specs.declared.refusal.Refusal.TheVariants.{PanelOpen}
-use Rattle.logs.specs.declared.reply.Answer.{Answer}
 use Rattle.logs.specs.declared.reply.Answer.TheVariants.{Done}
 use Rattle.logs.proofs.CallKinds.{done, closes, takes, drops, recalls, closes_none, takes_none, drops_none, recalls_none}
 use Rattle.logs.proofs.LoanPlaces.{There}
@@ -78,55 +74,49 @@ module _ {V S : Type 0} (p : Plant V S) (table : Seniority) where
       trimmed now stand = roles_trimmed p (done call) log (takes_none p call log no_take) (drops_none p call log no_drop) (closes_none p call log no_close)
           old.panels (SeatHasGrounds p table new) (seat_grounds_are led.ranks (done call ∷ log) new now stand)
 
+    -- an active role keeps its grounds at a panel whose person stays
+    still_owned : (call : Call V) → recalls call ≡ false → moment p (done call ∷ log) ≡ moment p log → (at role : ℕ) →
+        seat p (done call ∷ log) at ≡ seat p log at → active_at old.panels at role ≡ true → SeatEntitled p (done call ∷ log) at role
+    still_owned call no-recall still at role same active = kept_grounds (done call) (recalls_none p call log no-recall) still at role same (owned at role active)
+
     opened : (panel person : ℕ) → Answered (within p table old) (Open panel person) (Ok Done) → Follow (Open panel person)
     opened panel person answered = record {
       taken = λ at role took. search rules;
       taken_or_kept = λ at role b. search rules;
-      has_grounds = λ at role b. kept_grounds (done call) (recalls_none p call log refl) refl at role (elsewhere panel at (Some person) (seat p log at) b.0) (owned at role b.1);
+      has_grounds = λ at role b. still_owned (Open panel person) refl refl at role (elsewhere panel at (Some person) (seat p log at) b.0) b.1;
       kept_unless_ended = λ at role active _ _ _ left. search (rules, owned, nobody_there);
     }
-      where
-        call : Call V
-        call = Open panel person
 
     closed : (panel : ℕ) → Follow (Close panel)
     closed panel = record {
       taken = λ at role took. search rules;
       taken_or_kept = λ at role b. search rules;
-      has_grounds = λ at role b. kept_grounds (done call) (recalls_none p call log refl) refl at role (elsewhere panel at None (seat p log at) b.0) (owned at role b.1);
+      has_grounds = λ at role b. still_owned (Close panel) refl refl at role (elsewhere panel at None (seat p log at) b.0) b.1;
       kept_unless_ended = λ at role active _ unclosed _ left. search rules;
     }
-      where
-        call : Call V
-        call = Close panel
 
     taken : (panel role : ℕ) → SeatHasGrounds p table old panel role → Follow (Take panel role)
     taken panel role grounds = record {
       taken = λ at r took. search rules;
       taken_or_kept = λ at r b. search rules;
-      has_grounds = λ at r. elim [ inl w ↦ rw (w.0, w.1) here | inr active ↦ kept at r (owned at r active) ];
+      has_grounds = λ at r. elim [ inl w ↦ rw (w.0, w.1) here | inr active ↦ still_owned call refl refl at r refl active ];
       kept_unless_ended = λ at r active _ _ _ left. search rules;
     }
       where
         call : Call V
         call = Take panel role
 
-        kept : (at r : ℕ) → SeatEntitled p log at r → SeatEntitled p (done call ∷ log) at r
-        kept at r = kept_grounds (done call) (recalls_none p call log refl) refl at r refl
-
         here : SeatEntitled p (done call ∷ log) panel role
-        here = kept panel role ((seat_grounds_are led.ranks log old before led.whole.loan_stands_exactly_since_its_lend panel role).0 grounds)
+        here = kept_grounds (done call) (recalls_none p call log refl) refl panel role refl
+            ((seat_grounds_are led.ranks log old before led.whole.loan_stands_exactly_since_its_lend panel role).0 grounds)
 
     dropped : (panel role : ℕ) → Follow (Drop panel role)
     dropped panel role = record {
       taken = λ at r took. search rules;
       taken_or_kept = λ at r b. search rules;
-      has_grounds = λ at r b. kept_grounds (done call) (recalls_none p call log refl) refl at r refl (owned at r b.1);
+      has_grounds = λ at r b. still_owned (Drop panel role) refl refl at r refl b.1;
       kept_unless_ended = λ at r active undropped _ _ left. search rules;
     }
-      where
-        call : Call V
-        call = Drop panel role
 
     pub roles_granted : (call : Call V) → Agrees p (done call ∷ log) new → ((loan : Loan) → There new.loans loan ↔ StandsAfter p (done call ∷ log) loan) →
         Answered (within p table old) call (Ok Done) → LoansBecome p table old call new →

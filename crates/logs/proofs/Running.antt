@@ -1,5 +1,5 @@
 -- A log that is run call after call, the oldest first: what the replies written so far make, and that the calls stay.
-use Rattle.std.proofs.Common.{◌≡◌, ℕ, ◌+◌, ◌<◌, List, [], ◌∷◌, reverse, length, take, set, Some, Result, sym, refl, ap, ◌∙◌, ⊎_elim, rules}
+use Rattle.std.proofs.Common.{◌≡◌, ℕ, ◌+◌, ◌<◌, List, ◌∷◌, reverse, length, take, set, Some, Result, rules}
 use Rattle.std.specs.List.{slice_get}
 use Rattle.std.proofs.lemmas.List.{length-set, reverse-append, take_more_set}
 use Rattle.std.proofs.lemmas.Bool.{cases_eq}
