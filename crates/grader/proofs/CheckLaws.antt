@@ -1,5 +1,5 @@
 -- From what the checking functions find to the reply: checks in a row, and a call that is refused.
-use Rattle.std.proofs.Common.{◌≡◌, ℕ, ◌<◌, true, false, List, [], ◌∷◌, length, sym, refl, subst₂, inl, inr, ⊎_elim, arith, Ok, Err, Result}
+use Rattle.std.proofs.Common.{◌≡◌, ℕ, ◌<◌, true, false, List, [], ◌∷◌, length, refl, inl, inr, ⊎_elim, arith, Ok, Err, Result}
 use Rattle.std.proofs.lemmas.Bool.{both_ways, cases_lt}
 use Rattle.rules.specs.declared.seniority.Seniority.{Seniority}
 use Rattle.logs.specs.declared.call.Call.{Call}

@@ -3,7 +3,7 @@ use Rattle.std.proofs.Common.{◌≡◌, ℕ, ◌+◌, ◌<◌, List, ◌∷◌,
 use Rattle.rules.specs.declared.seniority.Seniority.{Seniority}
 use Rattle.logs.specs.declared.exchange.Exchange.{Exchange}
 use Rattle.logs.specs.Logs.{Plant}
-use Rattle.logs.specs.Promises.{Held, Led, Whole}
+use Rattle.logs.specs.Promises.{Held, Led}
 use Rattle.logs.proofs.Running.{run_more}
 
 module _ {V S P : Type 0} (over : P → Plant V S) where
