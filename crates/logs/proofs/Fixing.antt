@@ -41,11 +41,7 @@ one_lowest In i j a b = search rules
 
 module _ {V : Type 0} (s : Situation V) where
   one_overruled : (panel role i j : ℕ) → AtSeat s panel (Overruled s role i) → AtSeat s panel (Overruled s role j) → i ≡ j
-  one_overruled panel role i j a b =
-      let ea = a.seated in
-      let eb = b.seated in
-      let same : a.person ≡ b.person = cc in
-      one_lowest (s.DeniedBy b.person role) i j (subst (λ who. Lowest (s.DeniedBy who role) i) same a.holds.lowest) b.holds.lowest
+  one_overruled panel role i j a b = search (rules, one_lowest)
 
   ruleset fixing = (only_fixes, rule_fixes, one_lowest, one_overruled)
 
