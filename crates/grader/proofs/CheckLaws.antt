@@ -1,37 +1,37 @@
 -- From what the checking functions find to the reply: checks in a row, and a call that is refused.
-use Rattle.std.proofs.Common.{◌≡◌, ℕ, ◌<◌, true, false, List, [], ◌∷◌, length, sym, refl, subst₂, inl, inr, ⊎_elim, arith}
+use Rattle.std.proofs.Common.{◌≡◌, ℕ, ◌<◌, true, false, List, [], ◌∷◌, length, refl, inl, inr, ⊎_elim, arith, Ok, Err, Result}
 use Rattle.std.proofs.lemmas.Bool.{both_ways, cases_lt}
 use Rattle.rules.specs.declared.seniority.Seniority.{Seniority}
 use Rattle.logs.specs.declared.call.Call.{Call}
 use Rattle.logs.specs.declared.refusal.Refusal.{Refusal}
-use Rattle.logs.specs.declared.reply.Reply.{Reply}
-use Rattle.logs.specs.declared.reply.Reply.TheVariants.{Done, Refused}
+use Rattle.logs.specs.declared.reply.Answer.{Answer}
+use Rattle.logs.specs.declared.reply.Answer.TheVariants.{Done}
 use Rattle.logs.specs.Logs.{Plant}
 use Rattle.logs.specs.Promises.{Held}
 use Rattle.logs.specs.Situations.{Check, FirstThatHolds, checks, answer}
 use Rattle.logs.specs.Steps.{within, Performed, Became}
 use Rattle.grader.specs.Checks.{Passes, Refuses}
 
-pub first_refused : (cs : List Check) (otherwise : Reply → Type 0) (f : Refusal) → Refuses cs f → FirstThatHolds cs otherwise (Refused f)
+pub first_refused : (cs : List Check) (otherwise : Result Answer Refusal → Type 0) (f : Refusal) → Refuses cs f → FirstThatHolds cs otherwise (Err f)
 first_refused [] otherwise f none = absurd none
 first_refused (c ∷ cs) otherwise f refused =
     ⊎_elim (λ holds. inl (f, refl, holds)) (λ later. inr (later.0, first_refused cs otherwise f later.1)) refused
 
-pub first_passed : (cs : List Check) (otherwise : Reply → Type 0) (r : Reply) → Passes cs → otherwise r → FirstThatHolds cs otherwise r
+pub first_passed : (cs : List Check) (otherwise : Result Answer Refusal → Type 0) (r : Result Answer Refusal) → Passes cs → otherwise r → FirstThatHolds cs otherwise r
 first_passed [] otherwise r passed said = said
 first_passed (c ∷ cs) otherwise r passed said = inr (passed.0, first_passed cs otherwise r passed.1 said)
 
 module _ {V S : Type 0} (p : Plant V S) (table : Seniority) (old : Held V) (call : Call V) where
-  pub refused : (f : Refusal) → Refuses (checks (within p table old) call) f → Performed p table old call (Refused f) old
+  pub refused : (f : Refusal) → Refuses (checks (within p table old) call) f → Performed p table old call (Err f) old
   refused f found = record {
     answered = first_refused (checks (within p table old) call) (answer (within p table old) call) f found;
     refused_leaves_all = λ _. refl;
     granted_changes = λ e. absurd (both_ways false refl e);
   }
 
-  pub done : (new : Held V) → answer (within p table old) call Done → Passes (checks (within p table old) call) → Became p table old call new → Performed p table old call Done new
+  pub done : (new : Held V) → answer (within p table old) call (Ok Done) → Passes (checks (within p table old) call) → Became p table old call new → Performed p table old call (Ok Done) new
   done new said passed became = record {
-    answered = first_passed (checks (within p table old) call) (answer (within p table old) call) Done passed said;
+    answered = first_passed (checks (within p table old) call) (answer (within p table old) call) (Ok Done) passed said;
     refused_leaves_all = λ e. absurd (both_ways true e refl);
     granted_changes = λ _. became;
   }
@@ -43,8 +43,3 @@ panel_there seats panel long passes = ⊎_elim (λ above. absurd (passes above))
 -- and so is a role
 pub role_small : (role : ℕ) → (63 < role → ⊥) → role < 64
 role_small role passes = ⊎_elim (λ above. absurd (passes above)) (λ le. omega arith) (cases_lt 63 role)
-
--- a call by another name
-pub as_called : {V S : Type 0} (p : Plant V S) (table : Seniority) (old new : Held V) (call called : Call V) (r told : Reply) → call ≡ called → r ≡ told → Performed p table old called told new → Performed p table old call r new
-as_called p table old new call called r told same-call same-reply performed =
-    subst₂ (λ x y. Performed p table old x y new) (sym same-call) (sym same-reply) performed

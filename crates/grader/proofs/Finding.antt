@@ -2,7 +2,8 @@
 use Rattle.std.proofs.Common.{◌≡◌, ℕ, ◌<◌, ◌≤◌, true, false, List, [], ◌∷◌, length, Some, None, Err, Option, is_some, refl, ap, subst, inl, inr, ⊎_elim, arith}
 use Rattle.std.proofs.lemmas.Bool.{both_ways, cases_Bool}
 use Rattle.sets.specs.Members.{member}
-use Rattle.rules.specs.declared.claim.Verdict.TheVariants.{NothingGrants as NothingGranting, Denied}
+use Rattle.rules.specs.declared.claim.Objection.{Objection}
+use Rattle.rules.specs.declared.claim.Objection.TheVariants.{NothingGrants as NothingGranting, Denied}
 use Rattle.rules.specs.Policies.{NothingGrantingIsNo}
 use Rattle.tables.specs.declared.seat.Seat.{Seat}
 use Rattle.tables.specs.Loans.{standing, OnLoan as LentAlready}
@@ -14,7 +15,7 @@ use Rattle.logs.proofs.Alike.{lowest_over}
 use Rattle.logs.proofs.Moments.{granted_in, denied_in}
 use Rattle.logs.specs.declared.refusal.Refusal.{Refusal}
 use Rattle.logs.specs.declared.refusal.Refusal.TheVariants.{NothingGrants, RuleDenies, BorrowerDenied, LoansFull}
-use Rattle.logs.specs.Refusals.{number}
+use Rattle.logs.specs.Refusals.{number, objected}
 use Rattle.logs.specs.Situations.{Check, Situation, OnLoan, AtSeat, Ungranted, Overruled, only}
 use Rattle.grader.specs.declared.grader.Grader.{Grader}
 use Rattle.grader.specs.Checks.{Passes, Refuses, Seated, OnGrounds, StopsByVerdict, FreeToBorrow, borrower_checks, facing, moment_of}
@@ -50,19 +51,17 @@ module _ {P V S : Type 0} (s : Setting V S) (g : Grader P) where
 
   -- by the verdict on somebody who has no such loan
   module _ (person role : ℕ) (not_lent : LentAlready (standing g.loans) person role → ⊥) where
-    pub ungranted : Decided s person role NothingGranting → Ungranted here role person
-    ungranted none = record {
+    pub objects : (o : Objection) → Decided s person role (Err o) → StopsByVerdict s g person role (Err (objected o))
+    objects NothingGranting none = inl (refl, record {
       nothing_grants = λ i granted. none i ((granted_in now s.table person role i).1 granted);
       not_on_loan = λ lent. not_lent (lent_held person role lent);
-    }
-
-    pub overruled : (rule : ℕ) → Decided s person role (Denied rule) → Overruled here role rule person
-    overruled rule denied = record {
+    })
+    objects (Denied rule) denied = inr (rule, refl, record {
       lowest = lowest_over (DeniedBy s person role) (here.DeniedBy person role) (denied_in now s.table person role) rule denied.lowest;
       granting = (denied.granting.0, (granted_in now s.table person role denied.granting.0).0 denied.granting.1);
       not_by_rules = denied.refused;
       not_on_loan = λ lent. not_lent (lent_held person role lent);
-    }
+    })
 
   -- of a borrower to whom the role is not on loan
   module _ (borrower role : ℕ) (not_lent : LentAlready (standing g.loans) borrower role → ⊥) where

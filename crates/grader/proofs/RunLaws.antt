@@ -1,9 +1,9 @@
 -- One turn of a run: the log with one reply more leads to what is held after the call.
-use Rattle.std.proofs.Common.{◌≡◌, ℕ, ◌+◌, ◌<◌, List, ◌∷◌, reverse, length, take, set, sym, subst, subst₂}
+use Rattle.std.proofs.Common.{◌≡◌, ℕ, ◌+◌, ◌<◌, List, ◌∷◌, reverse, length, take, set, rules}
 use Rattle.rules.specs.declared.seniority.Seniority.{Seniority}
 use Rattle.logs.specs.declared.exchange.Exchange.{Exchange}
 use Rattle.logs.specs.Logs.{Plant}
-use Rattle.logs.specs.Promises.{Held, Led, Whole}
+use Rattle.logs.specs.Promises.{Held, Led}
 use Rattle.logs.proofs.Running.{run_more}
 
 module _ {V S P : Type 0} (over : P → Plant V S) where
@@ -12,10 +12,4 @@ module _ {V S P : Type 0} (over : P → Plant V S) where
       i < length log → policy ≡ first → after ≡ table →
       (Led (over policy) (reverse (take i log)) table old → Led (over policy) (e ∷ reverse (take i log)) table new) →
       Led (over first) (reverse (take i log)) table old → Led (over first) (reverse (take (i + 1) (set log i e))) after new
-  turn log i e policy first table after old new within same stays carries led =
-      let now : Led (over first) (e ∷ reverse (take i log)) table new =
-      subst (λ q. Led (over q) (e ∷ reverse (take i log)) table new) same (carries (subst (λ q. Led (over q) (reverse (take i log)) table old) (sym same) led)) in
-      subst₂ (λ done t. Led (over first) done t new) (sym (run_more log i e within)) (sym stays) now
-
-  pub all_turned : (log done : List (Exchange V)) (policy first : P) (table : Seniority) (held : Held V) → policy ≡ first → done ≡ log → Led (over policy) (reverse done) table held → Whole (over first) (reverse log) held
-  all_turned log done policy first table held same all led = subst₂ (λ q l. Whole (over q) (reverse l) held) same all led.whole
+  turn log i e policy first table after old new within same stays carries led = search (rules, run_more)

@@ -11,6 +11,7 @@
 --                                     the replies, and ws the register after it
 --     CheckedMaking m register policy start r     the result of checking a making: its first refusal, or what a grader is built from
 use Rattle.std.specs.Prelude.{◌≡◌, ℕ, true, List, reverse, take, Ok, Err, Result}
+use Rattle.std.specs.Result.{result_map_both}
 use Rattle.kinds.specs.Kinds.{Meaning}
 use Rattle.rules.specs.declared.entry.Entry.{Entry}
 use Rattle.rules.specs.declared.rule.Rule.{Rule}
@@ -20,8 +21,8 @@ use Rattle.sets.specs.declared.set.Set.{Set}
 use Rattle.book.specs.declared.sealed.Sealed.{Sealed}
 use Rattle.tables.specs.Loans.{standing}
 use Rattle.logs.specs.declared.refusal.Refusal.{Refusal}
-use Rattle.logs.specs.declared.reply.Reply.{Reply}
-use Rattle.logs.specs.declared.reply.Reply.TheVariants.{Done, Refused, Stands, Active}
+use Rattle.logs.specs.declared.reply.Answer.{Answer}
+use Rattle.logs.specs.declared.reply.Answer.TheVariants.{Done, Stands, Active}
 use Rattle.logs.specs.declared.reply.Standing.{Standing}
 use Rattle.logs.specs.declared.call.Call.{Call}
 use Rattle.logs.specs.declared.exchange.Exchange.{Exchange}
@@ -48,40 +49,37 @@ abbrev pub Keeps : {P : Type 0} → Grader P → Grader P → Type 0
 Keeps old new = (new.policy ≡ old.policy) × (new.senior ≡ old.senior)
 
 module _ {V S : Type 0} (p : Plant V S) {P : Type 0} where
-  abbrev pub Does : Grader P → List V → Call V → Reply → Grader P → List V → Type 0
+  abbrev pub Does : Grader P → List V → Call V → Result Answer Refusal → Grader P → List V → Type 0
   Does old vs call r new ws = Performed p old.senior (held old vs) call r (held new ws)
 
-  abbrev pub Carries : Grader P → List V → Call V → Reply → Grader P → List V → Type 0
+  abbrev pub Carries : Grader P → List V → Call V → Result Answer Refusal → Grader P → List V → Type 0
   Carries old vs call r new ws = CarriesOn p old.senior (held old vs) call r (held new ws)
 
-abbrev pub reply : Result (Unit {0}) Refusal → Reply
-reply (Ok x) = Done
-reply (Err f) = Refused f
+abbrev pub reply : Result (Unit {0}) Refusal → Result Answer Refusal
+reply r = result_map_both (λ _. Done) (λ f. f) r
 
-abbrev pub standing_reply : Result Standing Refusal → Reply
-standing_reply (Ok how) = Stands how
-standing_reply (Err f) = Refused f
+abbrev pub standing_reply : Result Standing Refusal → Result Answer Refusal
+standing_reply r = result_map_both Stands (λ f. f) r
 
-abbrev pub roles_reply : Result Set Refusal → Reply
-roles_reply (Ok set) = Active set
-roles_reply (Err f) = Refused f
+abbrev pub roles_reply : Result Set Refusal → Result Answer Refusal
+roles_reply r = result_map_both Active (λ f. f) r
 
 abbrev pub CheckedMaking : {P V S : Type 0} → Meaning V S → List V → P → ℕ → Result (Ready P) Refusal → Type 0
 CheckedMaking m register policy start (Err f) =
-    FirstThatHolds (making (λ v. m.lawful_value v ≡ true) register start) (λ _. ⊥) (Refused f)
+    FirstThatHolds (making (λ v. m.lawful_value v ≡ true) register start) (λ _. ⊥) (Err f)
 CheckedMaking m register policy start (Ok ready) =
-    FirstThatHolds (making (λ v. m.lawful_value v ≡ true) register start) (λ r. r ≡ Done) Done
+    FirstThatHolds (making (λ v. m.lawful_value v ≡ true) register start) (λ r. r ≡ Ok Done) (Ok Done)
     × (ready.policy ≡ policy) × (ready.start ≡ start)
 
 module _ {V S : Type 0} (p : Plant V S) where
   -- a making that is refused: log and register are untouched
   pub record NotMade (old : List (Exchange V)) (f : Refusal) (new : List (Exchange V)) (ws : List V) : Type 0 where
-    pub first_check_that_holds : FirstThatHolds (making (λ v. p.book.meaning.lawful_value v ≡ true) p.register p.start) (λ _. ⊥) (Refused f)
+    pub first_check_that_holds : FirstThatHolds (making (λ v. p.book.meaning.lawful_value v ≡ true) p.register p.start) (λ _. ⊥) (Err f)
     pub log_untouched : new ≡ old
     pub register_untouched : ws ≡ p.register
 
   pub record RanAll {P : Type 0} (old : List (Exchange V)) (g : Grader P) (new : List (Exchange V)) (ws : List V) : Type 0 where
-    pub no_check_holds : FirstThatHolds (making (λ v. p.book.meaning.lawful_value v ≡ true) p.register p.start) (λ r. r ≡ Done) Done
+    pub no_check_holds : FirstThatHolds (making (λ v. p.book.meaning.lawful_value v ≡ true) p.register p.start) (λ r. r ≡ Ok Done) (Ok Done)
     pub only_replies_are_written : SameCalls old new
     pub whole_promise : Whole p (reverse new) (held g ws)
 

@@ -20,10 +20,8 @@ pub fn run<'m, K: Kind, P: Policy + Drop>(
 {
     let ready = Ready::check::<K>(book, policy, register, start)?;
     let mut grader = ready.build::<K>(book, rules, entries);
-    for i in 0..log.len() {
-        let call = log[i].call;
-        let reply = grader.perform::<K>(book, rules, entries, register, call);
-        log[i] = Exchange { call, reply };
+    for exchange in log.iter_mut() {
+        exchange.reply = grader.perform::<K>(book, rules, entries, register, exchange.call);
     }
     Ok(grader)
 }

@@ -32,7 +32,7 @@ use Rattle.logs.specs.Moments.{ByRules}
 use Rattle.logs.specs.declared.call.Call.TheVariants.{Open, Take}
 use Rattle.logs.specs.declared.refusal.Refusal.{Refusal}
 use Rattle.logs.specs.declared.refusal.Refusal.TheVariants.{NothingGrants, RuleDenies}
-use Rattle.logs.specs.declared.reply.Reply.TheVariants.{Done, Refused}
+use Rattle.logs.specs.declared.reply.Answer.TheVariants.{Done}
 use Rattle.logs.specs.Logs.{Plant, Log, moment, after}
 use Rattle.logs.specs.Refusals.{number}
 use Rattle.logs.specs.Situations.{Answered}
@@ -126,7 +126,7 @@ small_plant policy now = record { book = small_book; judge = judge_of policy; re
 
 -- the log of one call: the person opens panel 0
 abbrev pub opened : ℕ → Log Record
-opened who = record { call = Open 0 who; reply = Done } ∷ []
+opened who = record { call = Open 0 who; reply = Ok Done } ∷ []
 
 abbrev pub Then : When → (ℕ → Type 0) → Type 0
 Then any_minute What = (now : ℕ) → What now
@@ -144,7 +144,7 @@ IsNotEntitled who what p = ByRules (moment p []) who what → ⊥
 
 abbrev pub OpensAndMayNotTake : ℕ → ℕ → Refusal → Plant Record Test → Type 0
 OpensAndMayNotTake who what why p =
-    Answered (after p []) (Open 0 who) Done × Answered (after p (opened who)) (Take 0 what) (Refused why)
+    Answered (after p []) (Open 0 who) (Ok Done) × Answered (after p (opened who)) (Take 0 what) (Err why)
 
 -- whatever memory is lent, the file is read, and Q holds of whatever answer and memory the reading may give
 pub record Reads (bytes : List ℕ) (Q : Result Opened FileFault → Type 0) : Type 0 where

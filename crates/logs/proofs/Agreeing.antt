@@ -1,5 +1,5 @@
 -- The situation after a log is the one that is read off what the grader holds.
-use Rattle.std.proofs.Common.{◌≡◌, ℕ, ◌≤◌, ◌↔◌, List, [], ◌∷◌, length, take, Some, refl, ap, ◌∙◌, subst, arith, length-set, length-take-le}
+use Rattle.std.proofs.Common.{◌≡◌, ℕ, ◌≤◌, ◌↔◌, List, [], ◌∷◌, length, take, Some, Result, refl, ap, ◌∙◌, subst, arith, rules, length-set, length-take-le}
 use mathlib.Core.Logic.Iff
 use Rattle.std.specs.List.{slice_get}
 use Rattle.std.proofs.lemmas.Bool.{cond_both}
@@ -11,23 +11,14 @@ use Rattle.logs.specs.Promises.{Held, Whole, Led}
 use Rattle.logs.specs.Situations.{Answered}
 use Rattle.logs.specs.Steps.{now_held, within}
 use Rattle.logs.specs.declared.call.Call.{Call}
-use Rattle.logs.specs.declared.call.Call.TheVariants.{Open, Close, Take, Drop, Lend, Recall, Enter, Tick, Entitled, Roles}
-use Rattle.logs.specs.declared.reply.Reply.{Reply}
+use Rattle.logs.specs.declared.refusal.Refusal.{Refusal}
+use Rattle.logs.specs.declared.reply.Answer.{Answer}
 use Rattle.logs.proofs.Alike.{Alike, answered_alike}
 use Rattle.logs.proofs.Moments.{whole_agrees, same_moment, held_is_by_rules}
 use Rattle.logs.proofs.Pigeons.{found_in_front, pigeons}
 
 records_of_long : {V : Type 0} (call : Call V) (old : List V) → length (records_of call old) ≡ length old
-records_of_long (Open panel person) old = refl
-records_of_long (Close panel) old = refl
-records_of_long (Take panel role) old = refl
-records_of_long (Drop panel role) old = refl
-records_of_long (Lend panel borrower role minutes) old = refl
-records_of_long (Recall panel borrower role) old = refl
-records_of_long (Enter person value) old = length-set old person value
-records_of_long (Tick minute) old = refl
-records_of_long (Entitled person role) old = refl
-records_of_long (Roles panel) old = refl
+records_of_long call old = search (rules, length-set)
 
 module _ {V S : Type 0} (p : Plant V S) where
   -- there are as many persons as at first
@@ -73,5 +64,5 @@ module _ {V S : Type 0} (p : Plant V S) where
         same_full = full_is old log w;
       }
 
-  pub answered_after : (table : Seniority) (old : Held V) (log : Log V) → Led p log table old → (call : Call V) (r : Reply) → Answered (within p table old) call r → Answered (after p log) call r
+  pub answered_after : (table : Seniority) (old : Held V) (log : Log V) → Led p log table old → (call : Call V) (r : Result Answer Refusal) → Answered (within p table old) call r → Answered (after p log) call r
   answered_after table old log led = answered_alike (within p table old) (after p log) (agree table old log led)

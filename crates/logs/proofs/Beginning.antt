@@ -1,5 +1,5 @@
 -- Before the first call: the empty log led to what a grader holds when it is made.
-use Rattle.std.proofs.Common.{◌≡◌, ℕ, [], length, Some, None, Decides, sym, ap, ◌∙◌}
+use Rattle.std.proofs.Common.{◌≡◌, ℕ, [], length, Some, None, Decides, ap, rules}
 use Rattle.std.specs.List.{slice_get}
 use Rattle.std.proofs.lemmas.Bool.{both_ways}
 use Rattle.rules.specs.declared.seniority.Seniority.{Seniority}
@@ -9,7 +9,6 @@ use Rattle.tables.specs.declared.loan.Loan.{Loan}
 use Rattle.tables.specs.Panels.{seat_at, person_of, active_of, active_at}
 use Rattle.logs.specs.Logs.{Plant, ActiveAfter, RoleEnded, Took, MadeBy, LoanEnded, StandsAfter}
 use Rattle.logs.specs.Promises.{Held, MoreRulesMoreRoles, Led}
-use Rattle.logs.proofs.LoanPlaces.{nothing_there}
 use Rattle.logs.proofs.SinceLaws.{since_none, uncut}
 
 module _ {V S : Type 0} (p : Plant V S) where
@@ -43,4 +42,4 @@ module _ {V S : Type 0} (p : Plant V S) where
     }
       where
         unlent : (i : ℕ) (loan : Loan) → slice_get held.loans i ≡ Some loan → ⊥
-        unlent i loan found = nothing_there (ap (λ l. slice_get l i) (sym loans) ∙ found)
+        unlent i loan found = search rules

@@ -1,15 +1,15 @@
 -- Granted calls, and what each kind of call does not do.
-use Rattle.std.proofs.Common.{◌≡◌, ℕ, Bool, false, eqb, ◌∷◌, ap}
+use Rattle.std.proofs.Common.{◌≡◌, ℕ, Bool, false, eqb, ◌∷◌, Ok, ap}
 use Rattle.std.proofs.lemmas.Bool.{eqb-false}
 use Rattle.tables.specs.declared.loan.Loan.{Loan}
 use Rattle.logs.specs.Logs.{Plant, Log, MadeBy, Recalled, Took, Dropped, Closed}
 use Rattle.logs.specs.declared.call.Call.{Call}
 use Rattle.logs.specs.declared.call.Call.TheVariants.{Open, Close, Take, Drop, Lend, Recall, Enter, Tick, Entitled, Roles}
 use Rattle.logs.specs.declared.exchange.Exchange.{Exchange}
-use Rattle.logs.specs.declared.reply.Reply.TheVariants.{Done}
+use Rattle.logs.specs.declared.reply.Answer.TheVariants.{Done}
 
 abbrev pub done : {V : Type 0} → Call V → Exchange V
-done call = record { call = call; reply = Done }
+done call = record { call = call; reply = Ok Done }
 
 module _ {V : Type 0} where
   abbrev kind : Call V → ℕ

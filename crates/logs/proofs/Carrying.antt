@@ -1,6 +1,6 @@
 -- One call carries any log on: whatever led to what was held before it leads, with that call, to what is held after it.
-use Rattle.std.proofs.Common.{◌≡◌, ℕ, true, false, ◌↔◌, [], ◌∷◌, length, Decides, sym, refl, ap, ◌∙◌, subst, subst₂}
-use mathlib.Core.List.{head-eq_of_cons-eq, tail-eq_of_cons-eq}
+use Rattle.std.proofs.Common.{◌≡◌, ℕ, true, false, ◌↔◌, [], ◌∷◌, length, Ok, Err, Result, Decides, sym, refl, ap, ◌∙◌, subst, rules}
+use mathlib.Core.List.{tail-eq_of_cons-eq}
 use Rattle.std.proofs.lemmas.Bool.{both_ways}
 use Rattle.rules.specs.declared.seniority.Seniority.{Seniority}
 use Rattle.tables.specs.declared.loan.Loan.{Loan}
@@ -11,8 +11,9 @@ use Rattle.logs.specs.Situations.{Answered}
 use Rattle.logs.specs.Steps.{within, RolesBecome, Became, Performed}
 use Rattle.logs.specs.declared.call.Call.{Call}
 use Rattle.logs.specs.declared.exchange.Exchange.{Exchange}
-use Rattle.logs.specs.declared.reply.Reply.{Reply}
-use Rattle.logs.specs.declared.reply.Reply.TheVariants.{Done, Refused, Stands, Active}
+use Rattle.logs.specs.declared.refusal.Refusal.{Refusal}
+use Rattle.logs.specs.declared.reply.Answer.{Answer}
+use Rattle.logs.specs.declared.reply.Answer.TheVariants.{Done, Stands, Active}
 use Rattle.logs.proofs.Agreeing.{answered_after}
 use Rattle.logs.proofs.CallKinds.{done}
 use Rattle.logs.proofs.LoanCases.{loans_unchanged, loans_granted}
@@ -24,8 +25,8 @@ use Rattle.logs.proofs.RoleSteps.{RolesFollow, roles_active, roles_grounded}
 
 module _ {V S : Type 0} (p : Plant V S) where
   answered_more : (e : Exchange V) (log : Log V) → AllAnswered p log → Answered (after p log) e.call e.reply → AllAnswered p (e ∷ log)
-  answered_more e log all now [] before d cut = subst₂ (λ l x. Answered (after p l) x.call x.reply) (tail-eq_of_cons-eq cut) (head-eq_of_cons-eq cut) now
-  answered_more e log all now (x ∷ later) before d cut = all later before d (tail-eq_of_cons-eq cut)
+  answered_more e log all now [] before d cut = search rules
+  answered_more e log all now (x ∷ later) before d cut = search (rules, tail-eq_of_cons-eq)
 
   module _ (table : Seniority) (old : Held V) (log : Log V) (led : Led p log table old) where
     agreed : Agrees p log old
@@ -68,10 +69,10 @@ module _ {V S : Type 0} (p : Plant V S) where
         still : moment p (e ∷ log) ≡ moment p log
         still = moment_stays p e log refused
 
-        not_done : e.reply ≡ Done → ⊥
+        not_done : e.reply ≡ Ok Done → ⊥
         not_done is-done = both_ways (granted e.reply) refused (ap granted is-done)
 
-    changed : (call : Call V) (new : Held V) → Answered (after p log) call Done → Answered (within p table old) call Done →
+    changed : (call : Call V) (new : Held V) → Answered (after p log) call (Ok Done) → Answered (within p table old) call (Ok Done) →
         Became p table old call new → Led p (done call ∷ log) table new
     changed call new answered read b = led_on (done call) new (RolesBecome p table old call new) answered now b.panels_there loans
         (roles_granted p table old new log led agreed call now (stood (done call) new loans) read b.loans_set)
@@ -84,14 +85,14 @@ module _ {V S : Type 0} (p : Plant V S) where
         loans = loans_granted p table old new log led agreed call now b.loans_set
 
   module _ (table : Seniority) (old : Held V) (call : Call V) where
-    not_granted : (r : Reply) (new : Held V) → granted r ≡ false → Performed p table old call r new → CarriesOn p table old call r new
+    not_granted : (r : Result Answer Refusal) (new : Held V) → granted r ≡ false → Performed p table old call r new → CarriesOn p table old call r new
     not_granted r new refused performed log led =
         subst (Led p (record { call = call; reply = r } ∷ log) table) (sym (performed.refused_leaves_all refused))
         (unchanged table old log led (record { call = call; reply = r }) (answered_after p table old log led call r performed.answered) refused)
 
-    pub carries : (r : Reply) (new : Held V) → Performed p table old call r new → CarriesOn p table old call r new
-    carries Done new performed =
-        λ log led. changed table old log led call new (answered_after p table old log led call Done performed.answered) performed.answered (performed.granted_changes refl)
-    carries (Refused f) new performed = not_granted (Refused f) new refl performed
-    carries (Stands how) new performed = not_granted (Stands how) new refl performed
-    carries (Active set) new performed = not_granted (Active set) new refl performed
+    pub carries : (r : Result Answer Refusal) (new : Held V) → Performed p table old call r new → CarriesOn p table old call r new
+    carries (Ok Done) new performed =
+        λ log led. changed table old log led call new (answered_after p table old log led call (Ok Done) performed.answered) performed.answered (performed.granted_changes refl)
+    carries (Err f) new performed = not_granted (Err f) new refl performed
+    carries (Ok (Stands how)) new performed = not_granted (Ok (Stands how)) new refl performed
+    carries (Ok (Active set)) new performed = not_granted (Ok (Active set)) new refl performed

@@ -1,7 +1,6 @@
 -- A situation fixes the reply to a call, and so the calls of a log fix its replies.
-use Rattle.std.proofs.Common.{◌≡◌, ℕ, List, [], ◌∷◌, map, sym, refl, ap, ◌∙◌, subst, inl, inr}
+use Rattle.std.proofs.Common.{◌≡◌, ℕ, List, [], ◌∷◌, map, Ok, Err, Result, sym, refl, ap, ap₂, ◌∙◌, subst, inl, inr, rules}
 use mathlib.Core.List.{nil≢cons, cons≢nil}
-use Rattle.std.proofs.lemmas.Bool.{cases_order}
 use Rattle.rules.proofs.VerdictLaws.{same_holds}
 use Rattle.tables.specs.Verdicts.{Lowest}
 use Rattle.logs.specs.Logs.{Plant, Log, after, AllAnswered}
@@ -10,10 +9,9 @@ use Rattle.logs.specs.declared.call.Call.{Call}
 use Rattle.logs.specs.declared.call.Call.TheVariants.{Open, Close, Take, Drop, Lend, Recall, Enter, Tick, Entitled, Roles}
 use Rattle.logs.specs.declared.exchange.Exchange.{Exchange}
 use Rattle.logs.specs.declared.refusal.Refusal.{Refusal}
-use Rattle.logs.specs.declared.reply.Reply.{Reply}
-use Rattle.logs.specs.declared.reply.Reply.TheVariants.{Refused, Stands, Active}
+use Rattle.logs.specs.declared.reply.Answer.{Answer}
+use Rattle.logs.specs.declared.reply.Answer.TheVariants.{Stands, Active}
 use Rattle.logs.specs.declared.reply.Standing.{Standing}
-use Rattle.logs.specs.declared.reply.Standing.TheVariants.{ByRules, ByLoan, Neither}
 
 -- CHECKS
 
@@ -25,9 +23,9 @@ abbrev AllFix : List Check → Type 0
 AllFix [] = Unit {0}
 AllFix (check ∷ checks) = Fixes check × AllFix checks
 
-first_fixes : (checks : List Check) (otherwise : Reply → Type 0) → AllFix checks → ((r q : Reply) → otherwise r → otherwise q → r ≡ q) → (r q : Reply) → FirstThatHolds checks otherwise r → FirstThatHolds checks otherwise q → r ≡ q
+first_fixes : (checks : List Check) (otherwise : Result Answer Refusal → Type 0) → AllFix checks → ((r q : Result Answer Refusal) → otherwise r → otherwise q → r ≡ q) → (r q : Result Answer Refusal) → FirstThatHolds checks otherwise r → FirstThatHolds checks otherwise q → r ≡ q
 first_fixes [] otherwise fix one r q h k = one r q h k
-first_fixes (check ∷ checks) otherwise fix one r q (inl h) (inl k) = h.1 ∙ ap Refused (fix.0 h.0 k.0 h.2 k.2) ∙ sym k.1
+first_fixes (check ∷ checks) otherwise fix one r q (inl h) (inl k) = h.1 ∙ ap Err (fix.0 h.0 k.0 h.2 k.2) ∙ sym k.1
 first_fixes (check ∷ checks) otherwise fix one r q (inl h) (inr k) = absurd (k.0 h.0 h.2)
 first_fixes (check ∷ checks) otherwise fix one r q (inr h) (inl k) = absurd (h.0 k.0 k.2)
 first_fixes (check ∷ checks) otherwise fix one r q (inr h) (inr k) = first_fixes checks otherwise fix.1 one r q h.1 k.1
@@ -39,65 +37,43 @@ rule_fixes : {name : ℕ → Refusal} {P : ℕ → Type 0} → ((i j : ℕ) → 
 rule_fixes {name} one f g a b = a.1 ∙ ap name (one a.0 b.0 a.2 b.2) ∙ sym b.1
 
 one_lowest : (In : ℕ → Type 0) (i j : ℕ) → Lowest In i → Lowest In j → i ≡ j
-one_lowest In i j a b =
-    elim (cases_order i j) [ inl same ↦ same | inr (inl lt) ↦ absurd (b.none_lower i lt a.held) | inr (inr lt) ↦ absurd (a.none_lower j lt b.held) ]
+one_lowest In i j a b = search rules
 
 module _ {V : Type 0} (s : Situation V) where
   one_overruled : (panel role i j : ℕ) → AtSeat s panel (Overruled s role i) → AtSeat s panel (Overruled s role j) → i ≡ j
-  one_overruled panel role i j a b =
-      let ea = a.seated in
-      let eb = b.seated in
-      let same : a.person ≡ b.person = cc in
-      one_lowest (s.DeniedBy b.person role) i j (subst (λ who. Lowest (s.DeniedBy who role) i) same a.holds.lowest) b.holds.lowest
+  one_overruled panel role i j a b = search (rules, one_lowest)
+
+  ruleset fixing = (only_fixes, rule_fixes, one_lowest, one_overruled)
 
   checks_fix : (call : Call V) → AllFix (checks s call)
-  checks_fix (Open panel person) = (only_fixes, (only_fixes, (only_fixes, tt)))
-  checks_fix (Close panel) = (only_fixes, (only_fixes, tt))
-  checks_fix (Take panel role) =
-      (only_fixes, (only_fixes, (only_fixes, (only_fixes, (only_fixes, (rule_fixes (one_overruled panel role), tt))))))
-  checks_fix (Drop panel role) = (only_fixes, (only_fixes, (only_fixes, (only_fixes, tt))))
-  checks_fix (Lend panel borrower role minutes) =
-      (only_fixes, (only_fixes, (only_fixes, (only_fixes, (only_fixes, (only_fixes, (only_fixes, (only_fixes, (only_fixes, (rule_fixes (one_lowest (s.DeniedBy borrower role)), (only_fixes, tt)))))))))))
-  checks_fix (Recall panel borrower role) = (only_fixes, (only_fixes, (only_fixes, (only_fixes, (only_fixes, (only_fixes, tt))))))
-  checks_fix (Enter person value) = (only_fixes, (only_fixes, tt))
-  checks_fix (Tick minute) = (only_fixes, tt)
-  checks_fix (Entitled person role) = (only_fixes, (only_fixes, tt))
-  checks_fix (Roles panel) = (only_fixes, tt)
+  checks_fix (Open panel person) = search fixing
+  checks_fix (Close panel) = search fixing
+  checks_fix (Take panel role) = search fixing parts 20
+  checks_fix (Drop panel role) = search fixing
+  checks_fix (Lend panel borrower role minutes) = search fixing parts 20
+  checks_fix (Recall panel borrower role) = search fixing parts 20
+  checks_fix (Enter person value) = search fixing
+  checks_fix (Tick minute) = search fixing
+  checks_fix (Entitled person role) = search fixing
+  checks_fix (Roles panel) = search fixing
 
   -- ANSWERS
 
   one_standing : (person role : ℕ) (a b : Standing) → standing s person role a → standing s person role b → a ≡ b
-  one_standing person role ByRules ByRules h k = refl
-  one_standing person role ByRules ByLoan h k = absurd (k.0 h)
-  one_standing person role ByRules Neither h k = absurd (k (inl h))
-  one_standing person role ByLoan ByRules h k = absurd (h.0 k)
-  one_standing person role ByLoan ByLoan h k = refl
-  one_standing person role ByLoan Neither h k = absurd (k (inr h.1))
-  one_standing person role Neither ByRules h k = absurd (h (inl k))
-  one_standing person role Neither ByLoan h k = absurd (h (inr k.1))
-  one_standing person role Neither Neither h k = refl
+  one_standing person role a b h k = search rules
 
-  one_answer : (call : Call V) (r q : Reply) → answer s call r → answer s call q → r ≡ q
-  one_answer (Open panel person) r q h k = h ∙ sym k
-  one_answer (Close panel) r q h k = h ∙ sym k
-  one_answer (Take panel role) r q h k = h ∙ sym k
-  one_answer (Drop panel role) r q h k = h ∙ sym k
-  one_answer (Lend panel borrower role minutes) r q h k = h ∙ sym k
-  one_answer (Recall panel borrower role) r q h k = h ∙ sym k
-  one_answer (Enter person value) r q h k = h ∙ sym k
-  one_answer (Tick minute) r q h k = h ∙ sym k
-  one_answer (Entitled person role) r q h k = h.1 ∙ ap Stands (one_standing person role h.0 k.0 h.2 k.2) ∙ sym k.1
-  one_answer (Roles panel) r q h k = h.1 ∙ ap Active (same_holds (s.Active panel) h.0 k.0 h.2 k.2) ∙ sym k.1
+  one_answer : (call : Call V) (r q : Result Answer Refusal) → answer s call r → answer s call q → r ≡ q
+  one_answer (Entitled person role) r q h k = h.1 ∙ ap (λ how. Ok (Stands how)) (one_standing person role h.0 k.0 h.2 k.2) ∙ sym k.1
+  one_answer (Roles panel) r q h k = h.1 ∙ ap (λ set. Ok (Active set)) (same_holds (s.Active panel) h.0 k.0 h.2 k.2) ∙ sym k.1
+  one_answer call r q h k = search rules
 
-  one_reply : (call : Call V) (r q : Reply) → Answered s call r → Answered s call q → r ≡ q
+  one_reply : (call : Call V) (r q : Result Answer Refusal) → Answered s call r → Answered s call q → r ≡ q
   one_reply call = first_fixes (checks s call) (answer s call) (checks_fix call) (one_answer call)
 
 -- LOGS
 
 one_exchange : {V : Type 0} (a b : Exchange V) → a.call ≡ b.call → a.reply ≡ b.reply → a ≡ b
-one_exchange {V} a b e f =
-    let both : Call V → Reply → Exchange V = λ call r. record { call = call; reply = r } in
-    ap (λ call. both call a.reply) e ∙ ap (both b.call) f
+one_exchange {V} a b = ap₂ (λ (call : Call V) (reply : Result Answer Refusal). record { call = call; reply = reply })
 
 module _ {V S : Type 0} (p : Plant V S) where
   answered_before : (e : Exchange V) (log : Log V) → AllAnswered p (e ∷ log) → AllAnswered p log

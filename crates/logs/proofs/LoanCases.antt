@@ -1,5 +1,5 @@
 -- What each granted call makes of the loans.
-use Rattle.std.proofs.Common.{◌≡◌, ℕ, ◌+◌, false, ◌↔◌, ◌∷◌, Some, sym, refl, ap, ◌∙◌, subst}
+use Rattle.std.proofs.Common.{◌≡◌, ℕ, ◌+◌, false, ◌↔◌, ◌∷◌, Some, sym, refl, ap, ◌∙◌, subst, rules}
 use Rattle.rules.specs.declared.seniority.Seniority.{Seniority}
 use Rattle.tables.specs.declared.loan.Loan.{Loan}
 use Rattle.tables.specs.Loans.{Lent, Filtered}
@@ -52,16 +52,7 @@ module _ {V S : Type 0} (p : Plant V S) (table : Seniority) (old new : Held V) (
       due = ap (λ n. n + minutes) before.same_clock
 
       only : (loan : Loan) → MadeBy p loan (done (Lend panel borrower role minutes) ∷ log) → x ≡ loan
-      only loan made =
-          let same : ◌≡◌ {A = Call V} (Lend panel borrower role minutes) (Lend made.0 loan.borrower loan.role made.1) = made.2 in
-          let at : panel ≡ made.0 = cc in
-          let long : minutes ≡ made.1 = cc in
-          let by : Some l.lender ≡ Some loan.lender = sym seated ∙ ap (seat p log) at ∙ made.4 in
-          let a : l.lender ≡ loan.lender = cc in
-          let b : borrower ≡ loan.borrower = cc in
-          let c : role ≡ loan.role = cc in
-          let d : old.clock + minutes ≡ loan.due = due ∙ ap (λ n. clock p log + n) long ∙ sym made.5 in
-          λ i. record { lender = a i; borrower = b i; role = c i; due = d i }
+      only loan made = search rules
 
   swept : (call : Call V) → lends call ≡ false → Agrees p (done call ∷ log) new → (P : Loan → Type 0) →
       ((loan : Loan) → P loan ↔ ((Recalled p loan (done call ∷ log) → ⊥) × MayStand (now_held p new) table loan)) →
@@ -74,12 +65,7 @@ module _ {V S : Type 0} (p : Plant V S) (table : Seniority) (old new : Held V) (
   all_swept call no-lend no-recall now = swept call no-lend now (MayStand (now_held p new) table) (λ loan. ((λ m. (recalls_none p call log no-recall loan, m)), (λ w. w.1)))
 
   recalled : (panel borrower role : ℕ) (loan : Loan) → Recalled p loan (done (Recall panel borrower role) ∷ log) ↔ Lent loan borrower role
-  recalled panel borrower role loan = (
-    (λ r.
-        let same : ◌≡◌ {A = Call V} (Recall panel borrower role) (Recall r.0 loan.borrower loan.role) = r.1 in
-        record { to_person = cc; of_role = cc }),
-    (λ lent. (panel, cc, refl)),
-  )
+  recalled panel borrower role loan = search rules
 
   pub loans_granted : (call : Call V) → Agrees p (done call ∷ log) new → LoansBecome p table old call new →
       LoansFollow p table (done call) log old.loans new.loans

@@ -1,5 +1,5 @@
 -- What one call makes of the loans: those that are there are those that stand after the log with that call.
-use Rattle.std.proofs.Common.{◌≡◌, ◌⊎◌, ◌↔◌, List, [], ◌∷◌, ◌++◌, sym, ap, ◌∙◌, subst, inl, inr, ⊎_elim, arith}
+use Rattle.std.proofs.Common.{◌≡◌, ◌⊎◌, ◌↔◌, List, [], ◌∷◌, ◌++◌, sym, subst, inl, inr, ⊎_elim, rules}
 use Rattle.std.proofs.lemmas.Bool.{cases_lt}
 use Rattle.rules.specs.declared.seniority.Seniority.{Seniority}
 use Rattle.tables.specs.declared.loan.Loan.{Loan}
@@ -17,10 +17,7 @@ abbrev pub SameLending : Loan → Loan → Type 0
 SameLending a b = Lent a b.borrower b.role
 
 turned : {a b x : Loan} → x ≡ a → SameLending a b → SameLending b x
-turned same alike = record {
-  to_person = sym alike.to_person ∙ ap (λ l. l.borrower) (sym same);
-  of_role = sym alike.of_role ∙ ap (λ l. l.role) (sym same);
-}
+turned same alike = search rules
 
 module _ {V S : Type 0} (p : Plant V S) (table : Seniority) (e : Exchange V) (log : Log V) where
   abbrev MayStandNow : Loan → Type 0
@@ -35,13 +32,13 @@ module _ {V S : Type 0} (p : Plant V S) (table : Seniority) (e : Exchange V) (lo
     pub apart : Apart SameLending new
 
   may_still : moment p (e ∷ log) ≡ moment p log → (loan : Loan) → MayStand (moment p log) table loan → MayStandNow loan
-  may_still still loan = subst (λ s. MayStand s table loan) (sym still)
+  may_still still loan may = search rules
 
   module _ (ranks : Ranks p table) where
     unended : (loan : Loan) → MayStandNow loan → (Recalled p loan (e ∷ log) → ⊥) → LoanEnded p loan (e ∷ log) → ⊥
-    unended loan m unrecalled (inl recalled) = unrecalled recalled
-    unended loan m unrecalled (inr (inl due)) = let early = m.not_due in let y : ⊥ = omega arith in y
-    unended loan m unrecalled (inr (inr (inl not_by_rules))) = not_by_rules ((by_table_is_by_rules p table ranks (e ∷ log) loan.lender loan.role).0 m.lender_entitled)
+    unended loan m unrecalled (inl recalled) = search rules
+    unended loan m unrecalled (inr (inl due)) = search rules
+    unended loan m unrecalled (inr (inr (inl not_by_rules))) = search (rules, by_table_is_by_rules)
     unended loan m unrecalled (inr (inr (inr denied))) = m.borrower_not_denied denied.0 ((denied_in (moment p (e ∷ log)) table loan.borrower loan.role denied.0).1 denied.1)
 
     -- a loan that may not stand has not gone unended
@@ -55,7 +52,7 @@ module _ {V S : Type 0} (p : Plant V S) (table : Seniority) (e : Exchange V) (lo
     -- a call that recalls nothing, and changes neither the clock nor a record, ends no loan
     pub stands_still : moment p (e ∷ log) ≡ moment p log → (loan : Loan) → (Recalled p loan (e ∷ log) → ⊥) → MayStand (moment p log) table loan →
         StandsAfter p log loan → StandsAfter p (e ∷ log) loan
-    stands_still still loan unrecalled may stood = made_before (MadeBy p loan) (LoanEnded p loan) e log stood (unended loan (may_still still loan may) unrecalled)
+    stands_still still loan unrecalled may stood = search (rules, made_before, unended, may_still)
 
     pub loans_stand : (old new : List Loan) → ((loan : Loan) → There old loan ↔ StandsAfter p log loan) → LoansFollow old new →
         (loan : Loan) → There new loan ↔ StandsAfter p (e ∷ log) loan
@@ -86,25 +83,13 @@ module _ {V S : Type 0} (p : Plant V S) (table : Seniority) (e : Exchange V) (lo
         new ≡ old ++ x ∷ [] → MayStand (moment p log) table x → (OnLoan old x.borrower x.role → ⊥) → LoansFollow old new
     loans_lent new x made only same may_x unlent = subst (LoansFollow old) (sym same) (record {
       made_there = λ loan m. subst (There (old ++ x ∷ [])) (only loan m) (last_there old x);
-      made_or_kept = λ loan there. ⊎_elim
-          (λ at. inr ((there.0, at), unrecalled loan))
-          (λ at. inl (subst (λ y. MadeBy p y (e ∷ log)) at.1 made))
-          (front_or_last old x loan there.0 there.1);
+      made_or_kept = λ loan there. search (rules, front_or_last);
       may_stand = λ loan there. ⊎_elim
           (λ at. may_still still loan (may loan (there.0, at)))
           (λ at. subst MayStandNow at.1 (may_still still x may_x))
           (front_or_last old x loan there.0 there.1);
       kept_or_ended = λ loan there. inl (front_there old x loan there);
-      apart = λ i j a b at_i at_j alike. ⊎_elim
-          (λ in_i. ⊎_elim
-          (λ in_j. apart i j a b in_i in_j alike)
-          (λ last_j. absurd (unlent (record { place = i; loan = a; found = in_i; lent = subst (SameLending a) (sym last_j.1) alike })))
-          (front_or_last old x b j at_j))
-          (λ last_i. ⊎_elim
-          (λ in_j. absurd (unlent (record { place = j; loan = b; found = in_j; lent = turned last_i.1 alike })))
-          (λ last_j. last_i.0 ∙ sym last_j.0)
-          (front_or_last old x b j at_j))
-          (front_or_last old x a i at_i);
+      apart = λ i j a b at_i at_j alike. search (rules, front_or_last, turned);
     })
 
   -- a call after which those are taken out that it has recalled or that may not stand
@@ -112,8 +97,8 @@ module _ {V S : Type 0} (p : Plant V S) (table : Seniority) (e : Exchange V) (lo
       ((loan : Loan) → P loan ↔ ((Recalled p loan (e ∷ log) → ⊥) × MayStandNow loan)) → Filtered P old new → LoansFollow old new
   loans_swept P old new apart unmade passes f = record {
     made_there = λ loan made. absurd (unmade loan made);
-    made_or_kept = λ loan there. let w = kept_there loan f there in inr (w.0, ((passes loan).0 w.1).0);
-    may_stand = λ loan there. ((passes loan).0 (kept_there loan f there).1).1;
-    kept_or_ended = λ loan there. ⊎_elim inl (λ fails. inr (λ unrecalled m. fails ((passes loan).1 (unrecalled, m)))) (kept_or_left loan f there);
-    apart = apart_kept SameLending f apart;
+    made_or_kept = λ loan there. let w = kept_there loan f there in search (rules, passes);
+    may_stand = λ loan there. let w = kept_there loan f there in search (rules, passes);
+    kept_or_ended = λ loan there. let w = kept_or_left loan f there in search (rules, passes);
+    apart = search (rules, apart_kept);
   }

@@ -1,13 +1,13 @@
 -- Different things that all stand in a list are no more than it has places.
-use Rattle.std.proofs.Common.{◌≡◌, ℕ, zero, suc, ◌≤◌, List, [], ◌∷◌, length, take, Some, refl, ap, suc-ne-zero, arith}
+use Rattle.std.proofs.Common.{◌≡◌, ℕ, zero, suc, ◌≤◌, List, [], ◌∷◌, length, take, Some, refl, ap, suc-ne-zero, arith, rules}
 use Rattle.std.specs.List.{slice_get}
-use Rattle.logs.proofs.LoanPlaces.{There, nothing_there}
+use Rattle.logs.proofs.LoanPlaces.{There}
 
 module _ {X : Type 0} where
   pub found_in_front : (n : ℕ) (xs : List X) (i : ℕ) (x : X) → slice_get (take n xs) i ≡ Some x → slice_get xs i ≡ Some x
-  found_in_front zero xs i x e = absurd (nothing_there e)
-  found_in_front (suc n) [] i x e = e
-  found_in_front (suc n) (y ∷ ys) zero x e = e
+  found_in_front zero xs i x e = search rules
+  found_in_front (suc n) [] i x e = search rules
+  found_in_front (suc n) (y ∷ ys) zero x e = search rules
   found_in_front (suc n) (y ∷ ys) (suc i) x e = found_in_front n ys i x e
 
   -- all but the one at a place
@@ -17,15 +17,15 @@ module _ {X : Type 0} where
   without (y ∷ ys) (suc j) = y ∷ without ys j
 
   without_length : (ys : List X) (j : ℕ) (x : X) → slice_get ys j ≡ Some x → length ys ≡ suc (length (without ys j))
-  without_length [] j x e = absurd (nothing_there e)
-  without_length (y ∷ ys) zero x e = refl
+  without_length [] j x e = search rules
+  without_length (y ∷ ys) zero x e = search rules
   without_length (y ∷ ys) (suc j) x e = ap suc (without_length ys j x e)
 
   without_found : (ys : List X) (j k : ℕ) (x z : X) → slice_get ys j ≡ Some x → slice_get ys k ≡ Some z → (x ≡ z → ⊥) → There (without ys j) z
-  without_found [] j k x z e f other = (k, f)
-  without_found (y ∷ ys) zero zero x z e f other = absurd (other (cc))
-  without_found (y ∷ ys) zero (suc k) x z e f other = (k, f)
-  without_found (y ∷ ys) (suc j) zero x z e f other = (zero, f)
+  without_found [] j k x z e f other = search rules
+  without_found (y ∷ ys) zero zero x z e f other = search rules
+  without_found (y ∷ ys) zero (suc k) x z e f other = search rules
+  without_found (y ∷ ys) (suc j) zero x z e f other = search rules
   without_found (y ∷ ys) (suc j) (suc k) x z e f other = let w = without_found ys j k x z e f other in (suc w.0, w.1)
 
   abbrev Different : List X → Type 0
@@ -40,7 +40,7 @@ module _ {X : Type 0} where
       without_found ys j there.0 x z here there.1 (λ same. suc-ne-zero i (different (suc i) 0 z e (ap Some same)))
 
   pub pigeons : (xs ys : List X) → Different xs → AllFound ys xs → length xs ≤ length ys
-  pigeons [] ys different found = omega arith
+  pigeons [] ys different found = search rules
   pigeons (x ∷ xs) ys different found =
       let here = found 0 x refl in
       let rest_different : Different xs = λ i j z e f. let next : suc i ≡ suc j = different (suc i) (suc j) z e f in omega arith in

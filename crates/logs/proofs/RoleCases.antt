@@ -1,6 +1,5 @@
 -- What each granted call makes of the active roles.
-use Rattle.std.proofs.Common.{◌≡◌, ℕ, true, false, cond, eqb, ◌↔◌, ◌∷◌, Some, None, Option, sym, refl, ap, ◌∙◌, subst₂, inl, inr, arith}
-use Rattle.std.proofs.lemmas.Bool.{cond-false, ne_eqb}
+use Rattle.std.proofs.Common.{◌≡◌, ℕ, true, false, cond, eqb, ◌↔◌, ◌∷◌, Some, None, Option, Ok, refl, inl, inr, rules}
 use Rattle.rules.specs.declared.seniority.Seniority.{Seniority}
 use Rattle.tables.specs.declared.loan.Loan.{Loan}
 use Rattle.tables.specs.Panels.{person_at, active_at}
@@ -11,21 +10,15 @@ use Rattle.logs.specs.Steps.{within, Grounds, SeatHasGrounds, RolesBecome, Loans
 use Rattle.logs.specs.declared.call.Call.{Call}
 use Rattle.logs.specs.declared.call.Call.TheVariants.{Open, Close, Take, Drop, Lend, Recall, Enter, Tick, Entitled, Roles}
 use Rattle.logs.specs.declared.exchange.Exchange.{Exchange}
-use Rattle.logs.specs.declared.refusal.Refusal.{Refusal}
-use Rattle.logs.specs.declared.refusal.Refusal.TheVariants.{PanelOpen}
-use Rattle.logs.specs.declared.reply.Reply.{Reply}
-use Rattle.logs.specs.declared.reply.Reply.TheVariants.{Done, Refused}
+use Rattle.logs.specs.declared.reply.Answer.TheVariants.{Done}
 use Rattle.logs.proofs.CallKinds.{done, closes, takes, drops, recalls, closes_none, takes_none, drops_none, recalls_none}
 use Rattle.logs.proofs.LoanPlaces.{There}
 use Rattle.logs.proofs.LoanSteps.{stands_still}
 use Rattle.logs.proofs.Moments.{Agrees, held_is_by_rules}
 use Rattle.logs.proofs.RoleSteps.{RolesFollow, grounds_still, roles_stay, roles_trimmed}
 
-not_refused : (f : Refusal) → ◌≡◌ {A = Reply} Done (Refused f) → ⊥
-not_refused f e = let z : ◌≡◌ {A = ℕ} 0 1 = cc in let y : ⊥ = omega arith in y
-
 elsewhere : (panel at : ℕ) (here there : Option ℕ) → (at ≡ panel → ⊥) → cond (eqb panel at) here there ≡ there
-elsewhere panel at here there apart = cond-false (eqb panel at) here there (ne_eqb panel at (λ q. apart (sym q)))
+elsewhere panel at here there apart = search rules
 
 module _ {V S : Type 0} (p : Plant V S) (table : Seniority) where
   -- who is entitled is read off what is held
@@ -44,20 +37,15 @@ module _ {V S : Type 0} (p : Plant V S) (table : Seniority) where
     )
 
     seat_grounds_are : (at role : ℕ) → SeatHasGrounds p table held at role ↔ SeatEntitled p log at role
-    seat_grounds_are at role = (
-      (λ g. (g.person, sym (agrees.same_persons at) ∙ g.there, (grounds_are g.person role).0 g.grounds)),
-      (λ s. record { person = s.0; there = agrees.same_persons at ∙ s.1; grounds = (grounds_are s.0 role).1 s.2 }),
-    )
+    seat_grounds_are at role = search (rules, grounds_are, agrees.same_persons)
 
   -- a panel is opened only where nobody is
-  nobody_there : (old : Held V) (panel person who : ℕ) → Answered (within p table old) (Open panel person) Done → person_at old.panels panel ≡ Some who → ⊥
-  nobody_there old panel person who (inl w) there = not_refused w.0 w.1
-  nobody_there old panel person who (inr (_, inl w)) there = not_refused w.0 w.1
-  nobody_there old panel person who (inr (_, inr (closed, _))) there = closed PanelOpen (refl, record { person = who; seated = there; holds = tt })
+  nobody_there : (old : Held V) (panel person who : ℕ) → Answered (within p table old) (Open panel person) (Ok Done) → person_at old.panels panel ≡ Some who → ⊥
+  nobody_there old panel person who answered there = search rules
 
   module _ (old new : Held V) (log : Log V) (led : Led p log table old) (before : Agrees p log old) where
     owned : (at role : ℕ) → active_at old.panels at role ≡ true → SeatEntitled p log at role
-    owned at role active = led.whole.active_role_has_its_grounds at role ((led.whole.role_active_exactly_since_its_take at role).0 active)
+    owned at role active = search (rules, led.whole.active_role_has_its_grounds, led.whole.role_active_exactly_since_its_take)
 
     -- a call that recalls nothing, and changes neither the clock nor a record
     module _ (e : Exchange V) (unrecalled : (loan : Loan) → Recalled p loan (e ∷ log) → ⊥)
@@ -86,65 +74,52 @@ module _ {V S : Type 0} (p : Plant V S) (table : Seniority) where
       trimmed now stand = roles_trimmed p (done call) log (takes_none p call log no_take) (drops_none p call log no_drop) (closes_none p call log no_close)
           old.panels (SeatHasGrounds p table new) (seat_grounds_are led.ranks (done call ∷ log) new now stand)
 
-    opened : (panel person : ℕ) → Answered (within p table old) (Open panel person) Done → Follow (Open panel person)
-    opened panel person answered = record {
-      taken = λ at role took. absurd (takes_none p call log refl at role took);
-      taken_or_kept = λ at role b. inr (b.1, drops_none p call log refl at role, closes_none p call log refl at);
-      has_grounds = λ at role b. kept_grounds (done call) (recalls_none p call log refl) refl at role (elsewhere panel at (Some person) (seat p log at) b.0) (owned at role b.1);
-      kept_unless_ended = λ at role active _ _ _ left. left (λ here. closed_before here (owned at role active), active);
-    }
-      where
-        call : Call V
-        call = Open panel person
+    -- an active role keeps its grounds at a panel whose person stays
+    still_owned : (call : Call V) → recalls call ≡ false → moment p (done call ∷ log) ≡ moment p log → (at role : ℕ) →
+        seat p (done call ∷ log) at ≡ seat p log at → active_at old.panels at role ≡ true → SeatEntitled p (done call ∷ log) at role
+    still_owned call no-recall still at role same active = kept_grounds (done call) (recalls_none p call log no-recall) still at role same (owned at role active)
 
-        closed_before : {at role : ℕ} → at ≡ panel → SeatEntitled p log at role → ⊥
-        closed_before here grounds = nobody_there old panel person grounds.0 answered (before.same_persons panel ∙ ap (seat p log) (sym here) ∙ grounds.1)
+    opened : (panel person : ℕ) → Answered (within p table old) (Open panel person) (Ok Done) → Follow (Open panel person)
+    opened panel person answered = record {
+      taken = λ at role took. search rules;
+      taken_or_kept = λ at role b. search rules;
+      has_grounds = λ at role b. still_owned (Open panel person) refl refl at role (elsewhere panel at (Some person) (seat p log at) b.0) b.1;
+      kept_unless_ended = λ at role active _ _ _ left. search (rules, owned, nobody_there);
+    }
 
     closed : (panel : ℕ) → Follow (Close panel)
     closed panel = record {
-      taken = λ at role took. absurd (takes_none p call log refl at role took);
-      taken_or_kept = λ at role b. inr (b.1, drops_none p call log refl at role, λ c. let same : ◌≡◌ {A = Call V} (Close panel) (Close at) = c.0 in b.0 (cc));
-      has_grounds = λ at role b. kept_grounds (done call) (recalls_none p call log refl) refl at role (elsewhere panel at None (seat p log at) b.0) (owned at role b.1);
-      kept_unless_ended = λ at role active _ unclosed _ left. left (λ here. unclosed (ap Close (sym here), refl), active);
+      taken = λ at role took. search rules;
+      taken_or_kept = λ at role b. search rules;
+      has_grounds = λ at role b. still_owned (Close panel) refl refl at role (elsewhere panel at None (seat p log at) b.0) b.1;
+      kept_unless_ended = λ at role active _ unclosed _ left. search rules;
     }
-      where
-        call : Call V
-        call = Close panel
 
     taken : (panel role : ℕ) → SeatHasGrounds p table old panel role → Follow (Take panel role)
     taken panel role grounds = record {
-      taken = λ at r took. let same : ◌≡◌ {A = Call V} (Take panel role) (Take at r) = took.0 in inl (cc, cc);
-      taken_or_kept = λ at r. elim [
-        | inl w ↦ let here = w.0 in let this = w.1 in inl (cc, refl)
-        | inr active ↦ inr (active, drops_none p call log refl at r, closes_none p call log refl at)
-      ];
-      has_grounds = λ at r. elim [
-        | inl w ↦ subst₂ (SeatEntitled p (done call ∷ log)) (sym w.0) (sym w.1)
-            (kept panel role ((seat_grounds_are led.ranks log old before led.whole.loan_stands_exactly_since_its_lend panel role).0 grounds))
-        | inr active ↦ kept at r (owned at r active)
-      ];
-      kept_unless_ended = λ at r active _ _ _ left. left (inr active);
+      taken = λ at r took. search rules;
+      taken_or_kept = λ at r b. search rules;
+      has_grounds = λ at r. elim [ inl w ↦ rw (w.0, w.1) here | inr active ↦ still_owned call refl refl at r refl active ];
+      kept_unless_ended = λ at r active _ _ _ left. search rules;
     }
       where
         call : Call V
         call = Take panel role
 
-        kept : (at r : ℕ) → SeatEntitled p log at r → SeatEntitled p (done call ∷ log) at r
-        kept at r = kept_grounds (done call) (recalls_none p call log refl) refl at r refl
+        here : SeatEntitled p (done call ∷ log) panel role
+        here = kept_grounds (done call) (recalls_none p call log refl) refl panel role refl
+            ((seat_grounds_are led.ranks log old before led.whole.loan_stands_exactly_since_its_lend panel role).0 grounds)
 
     dropped : (panel role : ℕ) → Follow (Drop panel role)
     dropped panel role = record {
-      taken = λ at r took. absurd (takes_none p call log refl at r took);
-      taken_or_kept = λ at r b. inr (b.1, λ d. let same : ◌≡◌ {A = Call V} (Drop panel role) (Drop at r) = d.0 in b.0 (cc, cc), closes_none p call log refl at);
-      has_grounds = λ at r b. kept_grounds (done call) (recalls_none p call log refl) refl at r refl (owned at r b.1);
-      kept_unless_ended = λ at r active undropped _ _ left. left (λ w. let here = w.0 in let this = w.1 in undropped (cc, refl), active);
+      taken = λ at r took. search rules;
+      taken_or_kept = λ at r b. search rules;
+      has_grounds = λ at r b. still_owned (Drop panel role) refl refl at r refl b.1;
+      kept_unless_ended = λ at r active undropped _ _ left. search rules;
     }
-      where
-        call : Call V
-        call = Drop panel role
 
     pub roles_granted : (call : Call V) → Agrees p (done call ∷ log) new → ((loan : Loan) → There new.loans loan ↔ StandsAfter p (done call ∷ log) loan) →
-        Answered (within p table old) call Done → LoansBecome p table old call new →
+        Answered (within p table old) call (Ok Done) → LoansBecome p table old call new →
         RolesFollow p (done call) log old.panels (RolesBecome p table old call new)
     roles_granted (Open panel person) now stand answered loans = opened panel person answered
     roles_granted (Close panel) now stand answered loans = closed panel

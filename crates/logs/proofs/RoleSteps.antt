@@ -1,5 +1,5 @@
 -- What one call makes of the active roles: those that are active are those that a take made active and nothing ended since.
-use Rattle.std.proofs.Common.{◌≡◌, ℕ, true, ◌⊎◌, ◌↔◌, List, ◌∷◌, Decides, Option, sym, ◌∙◌, subst, inl, inr, ⊎_elim}
+use Rattle.std.proofs.Common.{◌≡◌, ℕ, true, ◌⊎◌, ◌↔◌, List, ◌∷◌, Decides, Option, sym, ◌∙◌, subst, inl, inr, ⊎_elim, rules}
 use Rattle.std.proofs.lemmas.Bool.{cases_Bool}
 use Rattle.std.proofs.lemmas.Bool.Decides.{not_from_Decides}
 use Rattle.tables.specs.declared.loan.Loan.{Loan}
@@ -25,15 +25,7 @@ module _ {V S : Type 0} (p : Plant V S) (e : Exchange V) (log : Log V) where
   module _ (old new : List (Option Seat)) (Become : ℕ → ℕ → Type 0) (f : RolesFollow old Become) (at role : ℕ)
       (was : Decides (active_at old at role) (ActiveAfter p log at role)) (is : Decides (active_at new at role) (Become at role)) where
     active_now : active_at new at role ≡ true → ActiveAfter p (e ∷ log) at role
-    active_now t = ⊎_elim
-        (made_now (Took p at role) (RoleEnded p at role) e log)
-        (λ w. made_before (Took p at role) (RoleEnded p at role) e log (was.0 w.0) (unended w))
-        (f.taken_or_kept at role (is.0 t))
-      where
-        unended : (active_at old at role ≡ true) × (Dropped p at role (e ∷ log) → ⊥) × (Closed p at (e ∷ log) → ⊥) → RoleEnded p at role (e ∷ log) → ⊥
-        unended w (inl dropped) = w.1 dropped
-        unended w (inr (inl closed)) = w.2 closed
-        unended w (inr (inr no-grounds)) = no-grounds (f.has_grounds at role (is.0 t))
+    active_now t = search (rules, made_now, made_before, f.taken_or_kept, f.has_grounds)
 
     -- nothing is decided but whether the role is active
     unless_ended : ActiveAfter p log at role → (RoleEnded p at role (e ∷ log) → ⊥) → active_at new at role ≡ true
@@ -47,14 +39,11 @@ module _ {V S : Type 0} (p : Plant V S) (e : Exchange V) (log : Log V) where
     pub roles_active : Decides (active_at new at role) (ActiveAfter p (e ∷ log) at role)
     roles_active = (
       active_now,
-      (λ a. ⊎_elim
-          (λ took. is.1 (f.taken at role took))
-          (λ w. unless_ended w.0 w.1)
-          (since_step (Took p at role) (RoleEnded p at role) e log a)),
+      (λ a. let step = since_step (Took p at role) (RoleEnded p at role) e log a in search (rules, f.taken, unless_ended)),
     )
 
     pub roles_grounded : ActiveAfter p (e ∷ log) at role → SeatEntitled p (e ∷ log) at role
-    roles_grounded a = f.has_grounds at role (is.0 (roles_active.1 a))
+    roles_grounded a = search (rules, f.has_grounds, roles_active)
 
   -- a call that changes neither the clock nor a record, and ends no loan
   module _ (still : moment p (e ∷ log) ≡ moment p log) (stands : (loan : Loan) → StandsAfter p log loan → StandsAfter p (e ∷ log) loan) where
@@ -69,19 +58,9 @@ module _ {V S : Type 0} (p : Plant V S) (e : Exchange V) (log : Log V) where
   module _ (untaken : (at role : ℕ) → Took p at role (e ∷ log) → ⊥) (undropped : (at role : ℕ) → Dropped p at role (e ∷ log) → ⊥)
       (unclosed : (at : ℕ) → Closed p at (e ∷ log) → ⊥) (old : List (Option Seat)) where
     pub roles_stay : ((at role : ℕ) → active_at old at role ≡ true → SeatEntitled p (e ∷ log) at role) → RolesFollow old (λ at role. active_at old at role ≡ true)
-    roles_stay grounds = record {
-      taken = λ at role took. absurd (untaken at role took);
-      taken_or_kept = λ at role active. inr (active, undropped at role, unclosed at);
-      has_grounds = grounds;
-      kept_unless_ended = λ at role active _ _ _ left. left active;
-    }
+    roles_stay grounds = search rules
 
     -- a call after which those are taken away for which the panel's person has no grounds
     pub roles_trimmed : (Grounded : ℕ → ℕ → Type 0) → ((at role : ℕ) → Grounded at role ↔ SeatEntitled p (e ∷ log) at role) →
         RolesFollow old (λ at role. (active_at old at role ≡ true) × Grounded at role)
-    roles_trimmed Grounded grounded = record {
-      taken = λ at role took. absurd (untaken at role took);
-      taken_or_kept = λ at role w. inr (w.0, undropped at role, unclosed at);
-      has_grounds = λ at role w. (grounded at role).0 w.1;
-      kept_unless_ended = λ at role active _ _ grounds left. left (active, (grounded at role).1 grounds);
-    }
+    roles_trimmed Grounded grounded = search (rules, grounded)

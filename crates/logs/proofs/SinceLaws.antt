@@ -1,11 +1,12 @@
 -- What stands since it was made, reckoned call after call.
-use Rattle.std.proofs.Common.{◌≡◌, ◌⊎◌, List, [], ◌∷◌, ◌++◌, sym, refl, ap, ◌∙◌, subst, inl, inr}
-use mathlib.Core.List.{nil≢cons, cons-ne-nil, append-ne-nil_of_right_ne-nil, tail-eq_of_cons-eq}
+use Rattle.std.proofs.Common.{◌≡◌, ◌⊎◌, List, [], ◌∷◌, ◌++◌, sym, refl, ap, ◌∙◌, subst, inl, inr, rules}
+use mathlib.Core.List.{nil≢cons, tail-eq_of_cons-eq}
 use Rattle.logs.specs.Since.{Since}
 
 -- there is no call in the empty log
 pub uncut : {X : Type 0} (after : List X) (d : X) (between : List X) → [] ≡ after ++ (d ∷ between) → ⊥
-uncut after d between q = append-ne-nil_of_right_ne-nil after (cons-ne-nil d between) (sym q)
+uncut [] d between q = search rules
+uncut (x ∷ after) d between q = search rules
 
 module _ {X : Type 0} (Made Ended : List X → Type 0) where
   pub since_none : (Made [] → ⊥) → Since Made Ended [] → ⊥

@@ -18,7 +18,7 @@
 --     ActiveAfter log at role a granted take made the role active, and nothing ended it since
 --     after log                the situation in which the next call is answered
 --     AllAnswered log          every call is answered in the situation after the calls before it
-use Rattle.std.specs.Prelude.{◌≡◌, ℕ, ◌+◌, ◌≤◌, Bool, true, false, cond, ◌⊎◌, List, [], ◌∷◌, ◌++◌, length, set, Some, None, Option, ◌==◌}
+use Rattle.std.specs.Prelude.{◌≡◌, ℕ, ◌+◌, ◌≤◌, Bool, true, false, cond, ◌⊎◌, List, [], ◌∷◌, ◌++◌, length, set, Some, None, Option, Ok, Err, Result, ◌==◌}
 use Rattle.std.specs.List.{slice_get}
 use Rattle.rules.specs.Policies.{Judge}
 use Rattle.rules.specs.Rules.{Book}
@@ -30,8 +30,9 @@ use Rattle.logs.specs.Situations.{Situation, Answered}
 use Rattle.logs.specs.declared.call.Call.{Call}
 use Rattle.logs.specs.declared.call.Call.TheVariants.{Open, Close, Take, Drop, Lend, Recall, Enter, Tick, Entitled, Roles}
 use Rattle.logs.specs.declared.exchange.Exchange.{Exchange}
-use Rattle.logs.specs.declared.reply.Reply.{Reply}
-use Rattle.logs.specs.declared.reply.Reply.TheVariants.{Done, Refused, Stands, Active}
+use Rattle.logs.specs.declared.refusal.Refusal.{Refusal}
+use Rattle.logs.specs.declared.reply.Answer.{Answer}
+use Rattle.logs.specs.declared.reply.Answer.TheVariants.{Done, Stands, Active}
 
 pub record Plant (V S : Type 0) : Type 0 where
   pub book : Book V S
@@ -42,11 +43,11 @@ pub record Plant (V S : Type 0) : Type 0 where
 abbrev pub Log : Type 0 → Type 0
 Log V = List (Exchange V)
 
-abbrev pub granted : Reply → Bool
-granted Done = true
-granted (Refused f) = false
-granted (Stands how) = false
-granted (Active set) = false
+abbrev pub granted : Result Answer Refusal → Bool
+granted (Ok Done) = true
+granted (Ok (Stands how)) = false
+granted (Ok (Active set)) = false
+granted (Err f) = false
 
 module _ {V : Type 0} where
   abbrev pub clock_of : Call V → ℕ → ℕ
@@ -106,12 +107,12 @@ module _ {V S : Type 0} (p : Plant V S) where
   abbrev pub MadeBy : Loan → Log V → Type 0
   MadeBy loan [] = ⊥
   MadeBy loan (e ∷ log) =
-      (panel minutes : ℕ) × (e.call ≡ Lend panel loan.borrower loan.role minutes) × (e.reply ≡ Done)
+      (panel minutes : ℕ) × (e.call ≡ Lend panel loan.borrower loan.role minutes) × (e.reply ≡ Ok Done)
       × (seat log panel ≡ Some loan.lender) × (loan.due ≡ clock log + minutes)
 
   abbrev pub Recalled : Loan → Log V → Type 0
   Recalled loan [] = ⊥
-  Recalled loan (e ∷ log) = (panel : ℕ) × (e.call ≡ Recall panel loan.borrower loan.role) × (e.reply ≡ Done)
+  Recalled loan (e ∷ log) = (panel : ℕ) × (e.call ≡ Recall panel loan.borrower loan.role) × (e.reply ≡ Ok Done)
 
   abbrev pub LoanEnded : Loan → Log V → Type 0
   LoanEnded loan log =
@@ -133,15 +134,15 @@ module _ {V S : Type 0} (p : Plant V S) where
 
   abbrev pub Took : ℕ → ℕ → Log V → Type 0
   Took at role [] = ⊥
-  Took at role (e ∷ log) = (e.call ≡ Take at role) × (e.reply ≡ Done)
+  Took at role (e ∷ log) = (e.call ≡ Take at role) × (e.reply ≡ Ok Done)
 
   abbrev pub Dropped : ℕ → ℕ → Log V → Type 0
   Dropped at role [] = ⊥
-  Dropped at role (e ∷ log) = (e.call ≡ Drop at role) × (e.reply ≡ Done)
+  Dropped at role (e ∷ log) = (e.call ≡ Drop at role) × (e.reply ≡ Ok Done)
 
   abbrev pub Closed : ℕ → Log V → Type 0
   Closed at [] = ⊥
-  Closed at (e ∷ log) = (e.call ≡ Close at) × (e.reply ≡ Done)
+  Closed at (e ∷ log) = (e.call ≡ Close at) × (e.reply ≡ Ok Done)
 
   abbrev pub EntitledAfter : Log V → ℕ → ℕ → Type 0
   EntitledAfter log person role =

@@ -10,7 +10,7 @@
 --     Rise last checks         the numbers of the checks rise, and each refuses with its own
 --     CallsFixReplies          two logs of the same calls, each answered in the situation after the calls before it, are the same
 --     NumbersRise              the numbers of the checks of every call, and of a making, rise
-use Rattle.std.specs.Prelude.{◌≡◌, ℕ, ◌<◌, true, ◌⊎◌, ◌↔◌, List, [], ◌∷◌, map, length, Some, Decides, Option}
+use Rattle.std.specs.Prelude.{◌≡◌, ℕ, ◌<◌, true, ◌⊎◌, ◌↔◌, List, [], ◌∷◌, map, length, Some, Decides, Option, Result}
 use Rattle.std.specs.List.{slice_get}
 use Rattle.rules.specs.declared.seniority.Seniority.{Seniority}
 use Rattle.rules.specs.Ranks.{is_senior}
@@ -26,7 +26,7 @@ use Rattle.logs.specs.Situations.{Check, checks, making}
 use Rattle.logs.specs.declared.call.Call.{Call}
 use Rattle.logs.specs.declared.exchange.Exchange.{Exchange}
 use Rattle.logs.specs.declared.refusal.Refusal.{Refusal}
-use Rattle.logs.specs.declared.reply.Reply.{Reply}
+use Rattle.logs.specs.declared.reply.Answer.{Answer}
 
 pub record Held (V : Type 0) : Type 0 where
   pub clock : ℕ
@@ -64,7 +64,7 @@ module _ {V S : Type 0} (p : Plant V S) where
     pub ranks : Ranks table
     pub loans_may_stand : (loan : Loan) → StandsAfter p log loan → MayStand (moment p log) table loan
 
-  abbrev pub CarriesOn : Seniority → Held V → Call V → Reply → Held V → Type 0
+  abbrev pub CarriesOn : Seniority → Held V → Call V → Result Answer Refusal → Held V → Type 0
   CarriesOn table old call r new =
       (log : Log V) → Led log table old → Led (record { call = call; reply = r } ∷ log) table new
 

@@ -1,6 +1,9 @@
 -- REFUSALS: the number of each.
---     number f    the number that the refusal f is known by
+--     number f      the number that the refusal f is known by
+--     objected o    the refusal of a take to which rules and policy object
 use Rattle.std.specs.Prelude.{ℕ}
+use Rattle.rules.specs.declared.claim.Objection.{Objection}
+use Rattle.rules.specs.declared.claim.Objection.TheVariants as objection
 use Rattle.logs.specs.declared.refusal.Refusal.{Refusal}
 use Rattle.logs.specs.declared.refusal.Refusal.TheVariants.{TooManyPersons, StartOutOfBounds, UnlawfulRegister, NoSuchPanel, PanelOpen, PanelClosed, NoSuchPerson, NoSuchRole, UnlawfulRecord, BorrowerIsLender, MinutesOutOfBounds, MinuteOutOfBounds, AlreadyActive, NotActive, NothingGrants, RuleDenies, NotEntitledByRules, AlreadyLent, NoSuchLoan, BorrowerDenied, LoansFull}
 
@@ -26,3 +29,7 @@ number AlreadyLent = 70
 number NoSuchLoan = 71
 number (BorrowerDenied rule) = 72
 number LoansFull = 73
+
+abbrev pub objected : Objection → Refusal
+objected objection.NothingGrants = NothingGrants
+objected (objection.Denied rule) = RuleDenies rule

@@ -18,7 +18,7 @@
 --     FirstThatHolds checks otherwise r      r is the refusal of the first check that holds, or, where none does, what is said otherwise
 --     Answered call r          the reply to the call is r
 --     making                   the checks of a making
-use Rattle.std.specs.Prelude.{◌≡◌, ℕ, ◌<◌, ◌≤◌, ◌⊎◌, List, [], ◌∷◌, length, Some, None, Decides, Option}
+use Rattle.std.specs.Prelude.{◌≡◌, ℕ, ◌<◌, ◌≤◌, ◌⊎◌, List, [], ◌∷◌, length, Some, None, Decides, Option, Ok, Err, Result}
 use Rattle.std.specs.List.{slice_get}
 use Rattle.sets.specs.declared.set.Set.{Set}
 use Rattle.sets.specs.Members.{member}
@@ -30,8 +30,8 @@ use Rattle.logs.specs.declared.call.Call.{Call}
 use Rattle.logs.specs.declared.call.Call.TheVariants.{Open, Close, Take, Drop, Lend, Recall, Enter, Tick, Entitled, Roles}
 use Rattle.logs.specs.declared.refusal.Refusal.{Refusal}
 use Rattle.logs.specs.declared.refusal.Refusal.TheVariants.{TooManyPersons, StartOutOfBounds, UnlawfulRegister, NoSuchPanel, PanelOpen, PanelClosed, NoSuchPerson, NoSuchRole, UnlawfulRecord, BorrowerIsLender, MinutesOutOfBounds, MinuteOutOfBounds, AlreadyActive, NotActive, NothingGrants, RuleDenies, NotEntitledByRules, AlreadyLent, NoSuchLoan, BorrowerDenied, LoansFull}
-use Rattle.logs.specs.declared.reply.Reply.{Reply}
-use Rattle.logs.specs.declared.reply.Reply.TheVariants.{Done, Refused, Stands, Active}
+use Rattle.logs.specs.declared.reply.Answer.{Answer}
+use Rattle.logs.specs.declared.reply.Answer.TheVariants.{Done, Stands, Active}
 use Rattle.logs.specs.declared.reply.Standing.{Standing}
 use Rattle.logs.specs.declared.reply.Standing.TheVariants.{ByRules, ByLoan, Neither}
 
@@ -53,10 +53,10 @@ Check = ℕ × (Refusal → Type 0)
 abbrev pub only : Refusal → Type 0 → Check
 only f holds = (number f, λ g. (g ≡ f) × holds)
 
-abbrev pub FirstThatHolds : List Check → (Reply → Type 0) → Reply → Type 0
+abbrev pub FirstThatHolds : List Check → (Result Answer Refusal → Type 0) → Result Answer Refusal → Type 0
 FirstThatHolds [] otherwise r = otherwise r
 FirstThatHolds (check ∷ checks) otherwise r =
-    ((f : Refusal) × (r ≡ Refused f) × check.1 f) ⊎ (((f : Refusal) → check.1 f → ⊥) × FirstThatHolds checks otherwise r)
+    ((f : Refusal) × (r ≡ Err f) × check.1 f) ⊎ (((f : Refusal) → check.1 f → ⊥) × FirstThatHolds checks otherwise r)
 
 abbrev pub no_panel : ℕ → Check
 no_panel panel = only NoSuchPanel (23 < panel)
@@ -164,19 +164,19 @@ module _ {V : Type 0} (s : Situation V) where
   standing person role ByLoan = (s.ByRules person role → ⊥) × OnLoan person role
   standing person role Neither = EntitledTo person role → ⊥
 
-  abbrev pub answer : Call V → Reply → Type 0
-  answer (Open panel person) r = r ≡ Done
-  answer (Close panel) r = r ≡ Done
-  answer (Take panel role) r = r ≡ Done
-  answer (Drop panel role) r = r ≡ Done
-  answer (Lend panel borrower role minutes) r = r ≡ Done
-  answer (Recall panel borrower role) r = r ≡ Done
-  answer (Enter person value) r = r ≡ Done
-  answer (Tick minute) r = r ≡ Done
-  answer (Entitled person role) r = (how : Standing) × (r ≡ Stands how) × standing person role how
-  answer (Roles panel) r = (set : Set) × (r ≡ Active set) × ((role : ℕ) → Decides (member set role) (s.Active panel role))
+  abbrev pub answer : Call V → Result Answer Refusal → Type 0
+  answer (Open panel person) r = r ≡ Ok Done
+  answer (Close panel) r = r ≡ Ok Done
+  answer (Take panel role) r = r ≡ Ok Done
+  answer (Drop panel role) r = r ≡ Ok Done
+  answer (Lend panel borrower role minutes) r = r ≡ Ok Done
+  answer (Recall panel borrower role) r = r ≡ Ok Done
+  answer (Enter person value) r = r ≡ Ok Done
+  answer (Tick minute) r = r ≡ Ok Done
+  answer (Entitled person role) r = (how : Standing) × (r ≡ Ok (Stands how)) × standing person role how
+  answer (Roles panel) r = (set : Set) × (r ≡ Ok (Active set)) × ((role : ℕ) → Decides (member set role) (s.Active panel role))
 
-  abbrev pub Answered : Call V → Reply → Type 0
+  abbrev pub Answered : Call V → Result Answer Refusal → Type 0
   Answered call r = FirstThatHolds (checks call) (answer call) r
 
 -- the checks of a making: the register, the starting minute, and whether each record is lawful

@@ -8,7 +8,7 @@
 --     LoansBecome old call new               the loans that stand after the granted call
 --     Became table old call new              what is held after a granted call
 --     Performed table old call r new         the reply to a call, and what is held after it
-use Rattle.std.specs.Prelude.{◌≡◌, ℕ, ◌+◌, ◌≤◌, true, false, ◌⊎◌, [], ◌∷◌, ◌++◌, length, Some, Decides, ◌≢◌}
+use Rattle.std.specs.Prelude.{◌≡◌, ℕ, ◌+◌, ◌≤◌, true, false, ◌⊎◌, [], ◌∷◌, ◌++◌, length, Some, Decides, Result, ◌≢◌}
 use Rattle.std.specs.List.{slice_get}
 use Rattle.rules.specs.declared.seniority.Seniority.{Seniority}
 use Rattle.tables.specs.Loans.{Lent, OnLoan, Filtered}
@@ -19,7 +19,8 @@ use Rattle.logs.specs.Promises.{Held}
 use Rattle.logs.specs.Situations.{Situation, Answered}
 use Rattle.logs.specs.declared.call.Call.{Call}
 use Rattle.logs.specs.declared.call.Call.TheVariants.{Open, Close, Take, Drop, Lend, Recall, Enter, Tick, Entitled, Roles}
-use Rattle.logs.specs.declared.reply.Reply.{Reply}
+use Rattle.logs.specs.declared.refusal.Refusal.{Refusal}
+use Rattle.logs.specs.declared.reply.Answer.{Answer}
 
 module _ {V S : Type 0} (p : Plant V S) where
   abbrev pub now_held : Held V → Moment V S
@@ -89,7 +90,7 @@ module _ {V S : Type 0} (p : Plant V S) where
       pub roles_set : (at role : ℕ) → Decides (active_at new.panels at role) (RolesBecome old call new at role)
       pub loans_set : LoansBecome old call new
 
-    pub record Performed (old : Held V) (call : Call V) (r : Reply) (new : Held V) : Type 0 where
+    pub record Performed (old : Held V) (call : Call V) (r : Result Answer Refusal) (new : Held V) : Type 0 where
       pub answered : Answered (within old) call r
       pub refused_leaves_all : granted r ≡ false → new ≡ old
       pub granted_changes : granted r ≡ true → Became old call new

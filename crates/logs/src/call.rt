@@ -1,5 +1,5 @@
 // A call on a grader: the eight that may change it, and the two questions.
-#[derive(Clone, Copy)]
+#[derive(Clone, Copy, PartialEq, Eq)]
 pub enum Call<V> {
     Open {
         panel: u8,

@@ -10,5 +10,5 @@ mod theorems;
 pub use call::Call;
 pub use exchange::Exchange;
 pub use refusal::Refusal;
-pub use reply::{Reply, Standing};
+pub use reply::{Answer, Reply, Standing};
 pub use theorems::{the_calls_fix_the_replies, the_numbers_of_the_checks_rise};

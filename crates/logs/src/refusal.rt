@@ -1,8 +1,12 @@
 ghost use Rattle.std.specs.Prelude.{◌≡◌};
-ghost use Rattle.logs.specs.Refusals.{number};
+ghost use Rattle.logs.specs.Refusals.{number, objected};
+ghost use Rattle.logs.specs.declared.refusal.Refusal.TheVariants.{LoansFull};
+
+use rules::Objection;
+use tables::LoansFull;
 
 // Why a making, a call or a question is refused.
-#[derive(Clone, Copy)]
+#[derive(Clone, Copy, PartialEq, Eq)]
 pub enum Refusal {
     TooManyPersons,
     StartOutOfBounds,
@@ -54,5 +58,25 @@ impl Refusal {
             Refusal::BorrowerDenied { .. } => 72,
             Refusal::LoansFull => 73,
         }
+    }
+}
+
+// A take that rests on rules alone.
+impl From<Objection> for Refusal {
+    ghost from_gives = { λ objection r. r ≡ objected objection };
+
+    fn from(objection: Objection) -> Refusal {
+        match objection {
+            Objection::NothingGrants => Refusal::NothingGrants,
+            Objection::Denied { rule } => Refusal::RuleDenies { rule },
+        }
+    }
+}
+
+impl From<LoansFull> for Refusal {
+    ghost from_gives = { λ _ r. r ≡ LoansFull };
+
+    fn from(_: LoansFull) -> Refusal {
+        Refusal::LoansFull
     }
 }

@@ -2,18 +2,20 @@ use crate::refusal::Refusal;
 use sets::Set;
 
 // How a person stands to a role.
-#[derive(Clone, Copy)]
+#[derive(Clone, Copy, PartialEq, Eq)]
 pub enum Standing {
     ByRules,
     ByLoan,
     Neither,
 }
 
-// What a call is answered.
-#[derive(Clone, Copy)]
-pub enum Reply {
+// What a call that is not refused is answered: a change is done, a question is told.
+#[derive(Clone, Copy, PartialEq, Eq)]
+pub enum Answer {
     Done,
-    Refused(Refusal),
     Stands(Standing),
     Active(Set),
 }
+
+// The answer to a call, or why it is refused.
+pub type Reply = Result<Answer, Refusal>;

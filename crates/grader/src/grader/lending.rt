@@ -34,12 +34,12 @@ impl<P: Policy> Grader<P> {
         let ruling = self.ruling::<K>(&senior, book, rules, entries, register);
         let lender = self.check_lend(&ruling, panel, borrower, role, minutes)?;
         // There is room: that was the last check.
-        let _ = self.loans.add(Loan {
+        self.loans.add(Loan {
             lender,
             borrower,
             role,
             due: u64::from(self.clock) + u64::from(minutes),
-        });
+        })?;
         Ok(())
     }
 

@@ -1,12 +1,11 @@
 ghost use Rattle.std.specs.Prelude.{◌≡◌, ℕ, List};
-ghost use Rattle.grader.specs.Graders.{Keeps, Does, Carries, over, reply, standing_reply, roles_reply};
+ghost use Rattle.grader.specs.Graders.{Keeps, Does, Carries, over};
 
 use super::Grader;
 use book::Sealed;
 use kinds::Kind;
-use logs::{Call, Refusal, Reply, Standing};
+use logs::{Answer, Call, Reply};
 use rules::{Entry, Policy, Rule};
-use sets::Set;
 
 impl<P: Policy> Grader<P> {
     // Any call or question, and the reply to it.
@@ -22,61 +21,36 @@ impl<P: Policy> Grader<P> {
         ensures refused_by_its_first_check_that_holds_else_done { (first : List K.Value) (start : ℕ) → Does (over K.meaning (P.judge self.old.policy) book.now rules.now entries.now first start) self.old register.old call result self.new register.new }
         ensures carries_every_log_on { (first : List K.Value) (start : ℕ) → Carries (over K.meaning (P.judge self.old.policy) book.now rules.now entries.now first start) self.old register.old call result self.new register.new }
     {
-        match call {
-            Call::Open { panel, person } => done(self.open::<K>(register, panel, person)),
-            Call::Close { panel } => done(self.close::<K>(panel)),
-            Call::Take { panel, role } => done(self.take::<K>(
-                book, rules, entries, register, panel, role,
-            )),
-            Call::Drop { panel, role } => done(self.drop::<K>(panel, role)),
+        let done = match call {
+            Call::Open { panel, person } => self.open::<K>(register, panel, person),
+            Call::Close { panel } => self.close::<K>(panel),
+            Call::Take { panel, role } => {
+                self.take::<K>(book, rules, entries, register, panel, role)
+            }
+            Call::Drop { panel, role } => self.drop::<K>(panel, role),
             Call::Lend {
                 panel,
                 borrower,
                 role,
                 minutes,
-            } => done(self.lend::<K>(
+            } => self.lend::<K>(
                 book, rules, entries, register, panel, borrower, role, minutes,
-            )),
+            ),
             Call::Recall {
                 panel,
                 borrower,
                 role,
-            } => done(self.recall::<K>(book, rules, entries, register, panel, borrower, role)),
-            Call::Enter { person, record } => done(self.enter::<K>(
-                book, rules, entries, register, person, record,
-            )),
-            Call::Tick { minute } => done(self.tick::<K>(book, rules, entries, register, minute)),
-            Call::Entitled { person, role } => stands(self.entitled::<K>(
-                book, rules, entries, register, person, role,
-            )),
-            Call::Roles { panel } => active(self.roles::<K>(panel)),
-        }
-    }
-}
-
-fn done(res: Result<(), Refusal>) -> Reply
-    ensures the_reply_of_a_call { result ≡ reply res }
-{
-    match res {
-        Ok(()) => Reply::Done,
-        Err(refusal) => Reply::Refused(refusal),
-    }
-}
-
-fn stands(res: Result<Standing, Refusal>) -> Reply
-    ensures the_reply_of_a_question { result ≡ standing_reply res }
-{
-    match res {
-        Ok(standing) => Reply::Stands(standing),
-        Err(refusal) => Reply::Refused(refusal),
-    }
-}
-
-fn active(res: Result<Set, Refusal>) -> Reply
-    ensures the_reply_of_a_question { result ≡ roles_reply res }
-{
-    match res {
-        Ok(roles) => Reply::Active(roles),
-        Err(refusal) => Reply::Refused(refusal),
+            } => self.recall::<K>(book, rules, entries, register, panel, borrower, role),
+            Call::Enter { person, record } => {
+                self.enter::<K>(book, rules, entries, register, person, record)
+            }
+            Call::Tick { minute } => self.tick::<K>(book, rules, entries, register, minute),
+            Call::Entitled { person, role } => {
+                let standing = self.entitled::<K>(book, rules, entries, register, person, role);
+                return standing.map(Answer::Stands);
+            }
+            Call::Roles { panel } => return self.roles::<K>(panel).map(Answer::Active),
+        };
+        done.map(|()| Answer::Done)
     }
 }

@@ -13,7 +13,7 @@ use super::checks::check_role;
 use book::Sealed;
 use kinds::Kind;
 use logs::Refusal;
-use rules::{Entry, Policy, Rule, Verdict};
+use rules::{Entry, Policy, Rule};
 use tables::{Ruling, Seat};
 
 impl<P: Policy> Grader<P> {
@@ -72,11 +72,8 @@ impl<P: Policy> Grader<P> {
         if self.loans.has(person, role) {
             return Ok(());
         }
-        match ruling.verdict(person, role) {
-            Verdict::Entitled => Ok(()),
-            Verdict::NothingGrants => Err(Refusal::NothingGrants),
-            Verdict::Denied { rule } => Err(Refusal::RuleDenies { rule }),
-        }
+        ruling.verdict(person, role)?;
+        Ok(())
     }
 }
 

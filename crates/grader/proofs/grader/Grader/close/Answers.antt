@@ -1,6 +1,6 @@
-use Rattle.std.proofs.Common.{None, rules, refl}
+use Rattle.std.proofs.Common.{Ok, None, rules, refl}
 use Rattle.logs.specs.declared.call.Call.TheVariants.{Close}
-use Rattle.logs.specs.declared.reply.Reply.TheVariants.{Done}
+use Rattle.logs.specs.declared.reply.Answer.TheVariants.{Done}
 use Rattle.logs.proofs.Carrying.{carries}
 use Rattle.grader.specs.Graders.{held}
 use Rattle.grader.proofs.CheckLaws.{done, panel_there}
@@ -17,7 +17,7 @@ returns g c =
     let passed = c.in_ok-seat_at.ensures.finds_the_seat.0 in
     let there = panel_there old.panels.seats c.args.panel old.panels.long (λ above. passed.0 _ (refl, above)) in
     let told =
-    tells_unlent _ old.senior (held old) (Close c.args.panel) Done _
+    tells_unlent _ old.senior (held old) (Close c.args.panel) (Ok Done) _
     (λ p vs. done _ _ _ _ _ refl passed (closes _ _ _ c.put.new.self.seats _ None c.put.ensures.one_place_written there refl)) in
     record {
       policy_and_table_stay = (refl, refl);

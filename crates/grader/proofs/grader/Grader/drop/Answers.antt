@@ -1,6 +1,6 @@
-use Rattle.std.proofs.Common.{rules, refl}
+use Rattle.std.proofs.Common.{Ok, rules, refl}
 use Rattle.logs.specs.declared.call.Call.TheVariants.{Drop}
-use Rattle.logs.specs.declared.reply.Reply.TheVariants.{Done}
+use Rattle.logs.specs.declared.reply.Answer.TheVariants.{Done}
 use Rattle.logs.proofs.Carrying.{carries}
 use Rattle.grader.specs.Graders.{held}
 use Rattle.grader.proofs.CheckLaws.{done, panel_there}
@@ -17,7 +17,7 @@ returns g c =
     let found = c.in_ok-seat.ensures.finds_the_seat in
     let there = panel_there old.panels.seats c.args.panel old.panels.long (λ above. found.0.0 _ (refl, above)) in
     let told =
-    tells_unlent _ old.senior (held old) (Drop c.args.panel c.args.role) Done _
+    tells_unlent _ old.senior (held old) (Drop c.args.panel c.args.role) (Ok Done) _
     (λ p vs. done _ _ _ _ _ refl found.0
     (drops _ _ _ c.put.new.self.seats _ _ c.put.ensures.one_place_written there _ found.1 refl _ c.without.ensures.members_are_those_before_but_this_one)) in
     record {

@@ -3,7 +3,7 @@ use Rattle.std.proofs.lemmas.Result.{err_from_is_err_and}
 use Rattle.tables.specs.Loans.{standing}
 use Rattle.logs.specs.Situations.{checks}
 use Rattle.logs.specs.declared.call.Call.TheVariants.{Lend}
-use Rattle.logs.specs.declared.reply.Reply.TheVariants.{Done}
+use Rattle.logs.specs.declared.reply.Answer.TheVariants.{Done}
 use Rattle.grader.specs.Checks.{Found, Lending, facing}
 use Rattle.grader.specs.Graders.{held}
 use Rattle.grader.proofs.CheckLaws.{done}
@@ -34,7 +34,7 @@ returns g c =
     let added = c.add.ensures in
     let later : c.from.result + c.from-2.result ≡ old.clock + c.args.minutes = omega (arith, c.from.ensures, c.from-2.ensures) in
     let told =
-    tells_lent _ _ old.senior (held old c.args.register.now) call Done _
+    tells_lent _ _ old.senior (held old c.args.register.now) call (Ok Done) _
     (λ first start. done _ _ _ _ _ refl found.0
     (lends _ _ _ c.in_ok-lender.lender c.args.borrower c.args.role c.args.minutes c.args.panel (c.from.result + c.from-2.result) (standing c.add.new.self) (is_ok c.add.result)
     added.accepted_exactly_where_fewer_than_32_stand added.added_at_the_end_where_accepted found.1.free.room later found.1.seated found.1.some_minutes found.1.by_rules found.1.free.not_denied found.1.free.not_lent)) in

@@ -1,8 +1,8 @@
-use Rattle.std.proofs.Common.{refl}
+use Rattle.std.proofs.Common.{refl, Ok}
 use Rattle.std.proofs.lemmas.Result.{err_from_is_err_and}
 use Rattle.logs.proofs.Carrying.{carries}
 use Rattle.logs.specs.declared.call.Call.TheVariants.{Open}
-use Rattle.logs.specs.declared.reply.Reply.TheVariants.{Done}
+use Rattle.logs.specs.declared.reply.Answer.TheVariants.{Done}
 use Rattle.logs.specs.Logs.{Plant}
 use Rattle.logs.specs.Steps.{Performed}
 use Rattle.grader.proofs.CheckLaws.{refused, done, panel_there}
@@ -25,7 +25,7 @@ pub returns : goal.returns
 returns g c =
     let old = c.args.self.now in
     let passes = c.in_ok-check_open.ensures.refused_by_the_first_check_that_holds in
-    let performed : (p : Plant g.row.K-Value.Denot g.row.K-Test.Denot) → Performed p old.senior (held old c.args.register.now) (Open c.args.panel c.args.person) Done (with_seats p old.senior (held old c.args.register.now) c.put.new.self.seats) =
+    let performed : (p : Plant g.row.K-Value.Denot g.row.K-Test.Denot) → Performed p old.senior (held old c.args.register.now) (Open c.args.panel c.args.person) (Ok Done) (with_seats p old.senior (held old c.args.register.now) c.put.new.self.seats) =
     λ p.
     let passed = (passes p).0 in
     done p old.senior (held old c.args.register.now) (Open c.args.panel c.args.person) _ refl passed

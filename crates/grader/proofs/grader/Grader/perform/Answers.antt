@@ -1,75 +1,44 @@
-use Rattle.std.proofs.Common.{refl}
-use Rattle.logs.proofs.Carrying.{carries}
-use Rattle.grader.specs.Graders.{over}
-use Rattle.grader.proofs.CheckLaws.{as_called}
+use Rattle.std.proofs.Common.{◌≡◌, refl, rules}
+use Rattle.grader.specs.Graders.{reply, standing_reply, roles_reply}
 use Rattle.grader.proofs.grader.Grader.perform.Goals as goal
-
-pub returns-in-Open : goal.returns-in-Open
-returns-in-Open g c = record {
-  policy_and_table_stay = c.open.ensures.policy_and_table_stay;
-  refused_by_its_first_check_that_holds_else_done = λ first start. as_called _ _ _ _ _ _ _ _ c.in-Open.is c.done.ensures.the_reply_of_a_call (c.open.ensures.refused_by_its_first_check_that_holds_else_done (over g.K.Kind.meaning (g.P.Policy.judge c.args.self.now.policy) c.args.book.now c.args.rules.now c.args.entries.now first start));
-  carries_every_log_on = λ first start. carries _ _ _ _ _ _ (as_called _ _ _ _ _ _ _ _ c.in-Open.is c.done.ensures.the_reply_of_a_call (c.open.ensures.refused_by_its_first_check_that_holds_else_done (over g.K.Kind.meaning (g.P.Policy.judge c.args.self.now.policy) c.args.book.now c.args.rules.now c.args.entries.now first start)));
-}
-
-pub returns-in-Close : goal.returns-in-Close
-returns-in-Close g c = record {
-  policy_and_table_stay = c.close.ensures.policy_and_table_stay;
-  refused_by_its_first_check_that_holds_else_done = λ first start. as_called _ _ _ _ _ _ _ _ c.in-Close.is c.done-in-Close.ensures.the_reply_of_a_call (c.close.ensures.refused_by_its_first_check_that_holds_else_done (over g.K.Kind.meaning (g.P.Policy.judge c.args.self.now.policy) c.args.book.now c.args.rules.now c.args.entries.now first start) c.args.register.now);
-  carries_every_log_on = λ first start. carries _ _ _ _ _ _ (as_called _ _ _ _ _ _ _ _ c.in-Close.is c.done-in-Close.ensures.the_reply_of_a_call (c.close.ensures.refused_by_its_first_check_that_holds_else_done (over g.K.Kind.meaning (g.P.Policy.judge c.args.self.now.policy) c.args.book.now c.args.rules.now c.args.entries.now first start) c.args.register.now));
-}
-
-pub returns-in-Take : goal.returns-in-Take
-returns-in-Take g c = record {
-  policy_and_table_stay = c.take.ensures.policy_and_table_stay;
-  refused_by_its_first_check_that_holds_else_done = λ first start. as_called _ _ _ _ _ _ _ _ c.in-Take.is c.done-in-Take.ensures.the_reply_of_a_call (c.take.ensures.refused_by_its_first_check_that_holds_else_done first start);
-  carries_every_log_on = λ first start. carries _ _ _ _ _ _ (as_called _ _ _ _ _ _ _ _ c.in-Take.is c.done-in-Take.ensures.the_reply_of_a_call (c.take.ensures.refused_by_its_first_check_that_holds_else_done first start));
-}
-
-pub returns-in-Drop : goal.returns-in-Drop
-returns-in-Drop g c = record {
-  policy_and_table_stay = c.drop.ensures.policy_and_table_stay;
-  refused_by_its_first_check_that_holds_else_done = λ first start. as_called _ _ _ _ _ _ _ _ c.in-Drop.is c.done-in-Drop.ensures.the_reply_of_a_call (c.drop.ensures.refused_by_its_first_check_that_holds_else_done (over g.K.Kind.meaning (g.P.Policy.judge c.args.self.now.policy) c.args.book.now c.args.rules.now c.args.entries.now first start) c.args.register.now);
-  carries_every_log_on = λ first start. carries _ _ _ _ _ _ (as_called _ _ _ _ _ _ _ _ c.in-Drop.is c.done-in-Drop.ensures.the_reply_of_a_call (c.drop.ensures.refused_by_its_first_check_that_holds_else_done (over g.K.Kind.meaning (g.P.Policy.judge c.args.self.now.policy) c.args.book.now c.args.rules.now c.args.entries.now first start) c.args.register.now));
-}
-
-pub returns-in-Lend : goal.returns-in-Lend
-returns-in-Lend g c = record {
-  policy_and_table_stay = c.lend.ensures.policy_and_table_stay;
-  refused_by_its_first_check_that_holds_else_done = λ first start. as_called _ _ _ _ _ _ _ _ c.in-Lend.is c.done-in-Lend.ensures.the_reply_of_a_call (c.lend.ensures.refused_by_its_first_check_that_holds_else_done first start);
-  carries_every_log_on = λ first start. carries _ _ _ _ _ _ (as_called _ _ _ _ _ _ _ _ c.in-Lend.is c.done-in-Lend.ensures.the_reply_of_a_call (c.lend.ensures.refused_by_its_first_check_that_holds_else_done first start));
-}
-
-pub returns-in-Recall : goal.returns-in-Recall
-returns-in-Recall g c = record {
-  policy_and_table_stay = c.recall.ensures.policy_and_table_stay;
-  refused_by_its_first_check_that_holds_else_done = λ first start. as_called _ _ _ _ _ _ _ _ c.in-Recall.is c.done-in-Recall.ensures.the_reply_of_a_call (c.recall.ensures.refused_by_its_first_check_that_holds_else_done first start);
-  carries_every_log_on = λ first start. carries _ _ _ _ _ _ (as_called _ _ _ _ _ _ _ _ c.in-Recall.is c.done-in-Recall.ensures.the_reply_of_a_call (c.recall.ensures.refused_by_its_first_check_that_holds_else_done first start));
-}
-
-pub returns-in-Enter : goal.returns-in-Enter
-returns-in-Enter g c = record {
-  policy_and_table_stay = c.enter.ensures.policy_and_table_stay;
-  refused_by_its_first_check_that_holds_else_done = λ first start. as_called _ _ _ _ _ _ _ _ c.in-Enter.is c.done-in-Enter.ensures.the_reply_of_a_call (c.enter.ensures.refused_by_its_first_check_that_holds_else_done first start);
-  carries_every_log_on = λ first start. carries _ _ _ _ _ _ (as_called _ _ _ _ _ _ _ _ c.in-Enter.is c.done-in-Enter.ensures.the_reply_of_a_call (c.enter.ensures.refused_by_its_first_check_that_holds_else_done first start));
-}
-
-pub returns-in-Tick : goal.returns-in-Tick
-returns-in-Tick g c = record {
-  policy_and_table_stay = c.tick.ensures.policy_and_table_stay;
-  refused_by_its_first_check_that_holds_else_done = λ first start. as_called _ _ _ _ _ _ _ _ c.in-Tick.is c.done-in-Tick.ensures.the_reply_of_a_call (c.tick.ensures.refused_by_its_first_check_that_holds_else_done first start);
-  carries_every_log_on = λ first start. carries _ _ _ _ _ _ (as_called _ _ _ _ _ _ _ _ c.in-Tick.is c.done-in-Tick.ensures.the_reply_of_a_call (c.tick.ensures.refused_by_its_first_check_that_holds_else_done first start));
-}
+use Rattle.grader.proofs.grader.Grader.perform.Goals.{in-Open, in-Close, in-Take, in-Drop, in-Lend, in-Recall, in-Enter, in-Tick}
 
 pub returns-in-Entitled : goal.returns-in-Entitled
-returns-in-Entitled g c = record {
-  policy_and_table_stay = (refl, refl);
-  refused_by_its_first_check_that_holds_else_done = λ first start. as_called _ _ _ _ _ _ _ _ c.in-Entitled.is c.stands.ensures.the_reply_of_a_question (c.entitled.ensures.refused_by_its_first_check_that_holds_else_answered first start);
-  carries_every_log_on = λ first start. carries _ _ _ _ _ _ (as_called _ _ _ _ _ _ _ _ c.in-Entitled.is c.stands.ensures.the_reply_of_a_question (c.entitled.ensures.refused_by_its_first_check_that_holds_else_answered first start));
-}
+returns-in-Entitled g c =
+    let same : c.map.result ≡ standing_reply c.entitled-standing.result = search rules in
+    rw (c.in-Entitled.is, same) (search rules)
 
 pub returns-in-Roles : goal.returns-in-Roles
-returns-in-Roles g c = record {
-  policy_and_table_stay = (refl, refl);
-  refused_by_its_first_check_that_holds_else_done = λ first start. as_called _ _ _ _ _ _ _ _ c.in-Roles.is c.active.ensures.the_reply_of_a_question (c.roles.ensures.refused_by_its_first_check_that_holds_else_answered (over g.K.Kind.meaning (g.P.Policy.judge c.args.self.now.policy) c.args.book.now c.args.rules.now c.args.entries.now first start) c.args.register.now);
-  carries_every_log_on = λ first start. carries _ _ _ _ _ _ (as_called _ _ _ _ _ _ _ _ c.in-Roles.is c.active.ensures.the_reply_of_a_question (c.roles.ensures.refused_by_its_first_check_that_holds_else_answered (over g.K.Kind.meaning (g.P.Policy.judge c.args.self.now.policy) c.args.book.now c.args.rules.now c.args.entries.now first start) c.args.register.now));
-}
+returns-in-Roles g c =
+    let same : c.map-in-Roles.result ≡ roles_reply c.roles.result = search rules in
+    rw (c.in-Roles.is, same) (record {
+      policy_and_table_stay = (refl, refl);
+      refused_by_its_first_check_that_holds_else_done = λ first start. c.roles.ensures.refused_by_its_first_check_that_holds_else_answered _ _;
+      carries_every_log_on = λ first start. c.roles.ensures.carries_every_log_on _ _;
+    })
+
+pub returns : goal.returns
+returns g c =
+    let same : c.map-2.result ≡ reply c.match-call.done = search rules in
+    rw same (elim c.match-call.branch [
+      | in-Open w ↦ rw (w.in-Open.is, w.self-is, w.register-is, w.done-is) (record {
+        policy_and_table_stay = w.open-done.ensures.policy_and_table_stay;
+        refused_by_its_first_check_that_holds_else_done = λ first start. w.open-done.ensures.refused_by_its_first_check_that_holds_else_done _;
+        carries_every_log_on = λ first start. w.open-done.ensures.carries_every_log_on _;
+      })
+      | in-Close w ↦ rw (w.in-Close.is, w.self-is, w.register-is, w.done-is) (record {
+        policy_and_table_stay = w.close-done.ensures.policy_and_table_stay;
+        refused_by_its_first_check_that_holds_else_done = λ first start. w.close-done.ensures.refused_by_its_first_check_that_holds_else_done _ _;
+        carries_every_log_on = λ first start. w.close-done.ensures.carries_every_log_on _ _;
+      })
+      | in-Take w ↦ rw (w.in-Take.is, w.self-is, w.register-is, w.done-is) (search rules)
+      | in-Drop w ↦ rw (w.in-Drop.is, w.self-is, w.register-is, w.done-is) (record {
+        policy_and_table_stay = w.drop-done.ensures.policy_and_table_stay;
+        refused_by_its_first_check_that_holds_else_done = λ first start. w.drop-done.ensures.refused_by_its_first_check_that_holds_else_done _ _;
+        carries_every_log_on = λ first start. w.drop-done.ensures.carries_every_log_on _ _;
+      })
+      | in-Lend w ↦ rw (w.in-Lend.is, w.self-is, w.register-is, w.done-is) (search rules)
+      | in-Recall w ↦ rw (w.in-Recall.is, w.self-is, w.register-is, w.done-is) (search rules)
+      | in-Enter w ↦ rw (w.in-Enter.is, w.self-is, w.register-is, w.done-is) (search rules)
+      | in-Tick w ↦ rw (w.in-Tick.is, w.self-is, w.register-is, w.done-is) (search rules)
+    ])

@@ -1,8 +1,8 @@
-use Rattle.std.proofs.Common.{refl, subst}
+use Rattle.std.proofs.Common.{Ok, refl, subst}
 use Rattle.std.proofs.lemmas.Result.{err_from_is_err_and}
 use Rattle.logs.specs.Situations.{checks}
 use Rattle.logs.specs.declared.call.Call.TheVariants.{Recall}
-use Rattle.logs.specs.declared.reply.Reply.TheVariants.{Done}
+use Rattle.logs.specs.declared.reply.Answer.TheVariants.{Done}
 use Rattle.grader.specs.Checks.{Passes, facing}
 use Rattle.grader.specs.Graders.{held}
 use Rattle.grader.proofs.CheckLaws.{done}
@@ -32,7 +32,7 @@ returns g c =
     c.ruling-ruling.ensures.rules_by_what_is_lent c.in_ok-check_recall.ensures.refused_by_the_first_check_that_holds.0 in
     let ended = c.retain.ensures.keeps_exactly_the_loans_that_pass in
     let settled = c.settle.ensures.ends_what_has_no_grounds in
-    let told = tells_lent _ _ old.senior (held old c.args.register.now) call Done _ (λ first start. done _ _ _ _ _ refl passed (recalled _ _ _ _ settled _ _ _ _ ended)) in
+    let told = tells_lent _ _ old.senior (held old c.args.register.now) call (Ok Done) _ (λ first start. done _ _ _ _ _ refl passed (recalled _ _ _ _ settled _ _ _ _ ended)) in
     record {
       policy_and_table_stay = settled.stays;
       refused_by_its_first_check_that_holds_else_done = told.0;

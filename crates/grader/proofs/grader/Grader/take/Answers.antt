@@ -2,7 +2,7 @@ use Rattle.std.proofs.Common.{Ok, refl, subst}
 use Rattle.std.proofs.lemmas.Result.{err_from_is_err_and}
 use Rattle.logs.specs.Situations.{checks}
 use Rattle.logs.specs.declared.call.Call.TheVariants.{Take}
-use Rattle.logs.specs.declared.reply.Reply.TheVariants.{Done}
+use Rattle.logs.specs.declared.reply.Answer.TheVariants.{Done}
 use Rattle.grader.specs.Checks.{Found, GrantedSeat, facing}
 use Rattle.grader.specs.Graders.{held}
 use Rattle.grader.proofs.CheckLaws.{done, panel_there, role_small}
@@ -33,7 +33,7 @@ returns g c =
     let there = panel_there old.panels.seats c.args.panel old.panels.long (λ above. found.0.0 _ (refl, above)) in
     let small = role_small c.args.role (λ above. found.0.1.1.0 _ (refl, above)) in
     let told =
-    tells_lent _ _ old.senior (held old c.args.register.now) call Done _
+    tells_lent _ _ old.senior (held old c.args.register.now) call (Ok Done) _
     (λ first start. done _ _ _ _ _ refl found.0
     (takes _ _ _ c.put.new.self.seats _ _ c.put.ensures.one_place_written there
     _ found.1.there refl _ small c.with.ensures.members_are_those_before_and_this_one found.1.grounds)) in
