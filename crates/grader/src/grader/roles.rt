@@ -72,8 +72,7 @@ impl<P: Policy> Grader<P> {
         if self.loans.has(person, role) {
             return Ok(());
         }
-        ruling.verdict(person, role)?;
-        Ok(())
+        Ok(ruling.verdict(person, role)?)
     }
 }
 
