@@ -21,7 +21,7 @@ pub(crate) fn cut_part<'a>(bytes: &'a [u8], place: usize) -> Result<Part<'a>, At
             fault: FrameFault::RecordCut,
         });
     };
-    let size = u16::from_le_bytes([*l0, *l1]) as usize;
+    let size = usize::from(u16::from_le_bytes([*l0, *l1]));
     if size > rest.len() {
         return Err(At {
             place,

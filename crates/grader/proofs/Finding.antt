@@ -52,16 +52,23 @@ module _ {P V S : Type 0} (s : Setting V S) (g : Grader P) where
   -- by the verdict on somebody who has no such loan
   module _ (person role : ℕ) (not_lent : LentAlready (standing g.loans) person role → ⊥) where
     pub objects : (o : Objection) → Decided s person role (Err o) → StopsByVerdict s g person role (Err (objected o))
-    objects NothingGranting none = inl (refl, record {
-      nothing_grants = λ i granted. none i ((granted_in now s.table person role i).1 granted);
-      not_on_loan = λ lent. not_lent (lent_held person role lent);
-    })
-    objects (Denied rule) denied = inr (rule, refl, record {
-      lowest = lowest_over (DeniedBy s person role) (here.DeniedBy person role) (denied_in now s.table person role) rule denied.lowest;
-      granting = (denied.granting.0, (granted_in now s.table person role denied.granting.0).0 denied.granting.1);
-      not_by_rules = denied.refused;
-      not_on_loan = λ lent. not_lent (lent_held person role lent);
-    })
+    objects NothingGranting none = inl (
+      refl,
+      record {
+        nothing_grants = λ i granted. none i ((granted_in now s.table person role i).1 granted);
+        not_on_loan = λ lent. not_lent (lent_held person role lent);
+      },
+    )
+    objects (Denied rule) denied = inr (
+      rule,
+      refl,
+      record {
+        lowest = lowest_over (DeniedBy s person role) (here.DeniedBy person role) (denied_in now s.table person role) rule denied.lowest;
+        granting = (denied.granting.0, (granted_in now s.table person role denied.granting.0).0 denied.granting.1);
+        not_by_rules = denied.refused;
+        not_on_loan = λ lent. not_lent (lent_held person role lent);
+      },
+    )
 
   -- of a borrower to whom the role is not on loan
   module _ (borrower role : ℕ) (not_lent : LentAlready (standing g.loans) borrower role → ⊥) where

@@ -77,6 +77,6 @@ impl From<LoansFull> for Refusal {
     ghost from_gives = { λ _ r. r ≡ LoansFull };
 
     fn from(_: LoansFull) -> Refusal {
-        Refusal::LoansFull
+        Self::LoansFull
     }
 }

@@ -43,11 +43,17 @@ impl fmt::Display for Rulebook {
             "edition 2, policy {code} ({policy}), {rule_count} {rule_word}, {entry_count} {entry_word}"
         )?;
         for (number, rule) in self.rules.iter().take(rule_count).enumerate() {
-            let line = Numbered { number, item: *rule };
+            let line = Numbered {
+                number,
+                item: *rule,
+            };
             write!(f, "\n{line}")?;
         }
         for (number, entry) in self.entries.iter().take(entry_count).enumerate() {
-            let line = Numbered { number, item: *entry };
+            let line = Numbered {
+                number,
+                item: *entry,
+            };
             write!(f, "\n{line}")?;
         }
         Ok(())
