@@ -4,7 +4,6 @@ use hall::{EntryLine, HallTest, RuleLine};
 use rules::{Entry, Rule};
 
 pub fn refusal(rt: &HostRuntime, fault: &FileFault) -> anyhow::Result<()> {
-    let fault = *fault;
     println!(rt; "refused: {fault}")?;
     Ok(())
 }
