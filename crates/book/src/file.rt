@@ -48,12 +48,11 @@ pub fn read<K: FileKind>(
         step::<K>(&mut reader, &mut scan, rules, entries)?;
     }
     if reader.place < bytes.len() {
-        let fault = BookFault::Trailing;
-        return Err(At {
+        let trailing = At {
             place: reader.place,
-            fault,
-        }
-        .into());
+            fault: BookFault::Trailing,
+        };
+        return Err(trailing.into());
     }
     Ok(scan.finish())
 }
