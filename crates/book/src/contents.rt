@@ -9,7 +9,7 @@ use kinds::FileKind;
 use rules::{Entry, Rule};
 use sets::Set;
 
-// What a header says.
+// What a header says, in the file's numbers: whether they are known is asked only of a header that comes first.
 #[derive(Clone, Copy)]
 pub(crate) struct Header {
     pub edition: u16,

@@ -3,7 +3,8 @@ ghost use Rattle.book.specs.Frames.{cut, part_cut};
 
 use crate::faults::{At, FrameFault};
 
-// A record of the file: where it starts, its kind, and its body, a part of the file's bytes.
+// A record of the file: where it starts, its kind, and its body, a part of the file's bytes. The kind is the number in the
+// file: whether there is such a kind is for the record, which is read after the frame is found whole.
 #[derive(Clone, Copy)]
 pub(crate) struct Part<'a> {
     pub place: usize,

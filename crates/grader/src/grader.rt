@@ -14,7 +14,8 @@ mod settling;
 
 pub use making::Ready;
 
-// What a grader holds between calls. Rules, entries and register are lent to each call that uses them.
+// What a grader holds between calls. Rules, entries and register are lent to each call that uses them, as parameters of
+// their own: the memory is the caller's, and no value of ours outlives the call. Within a call they travel as a `Ruling`.
 #[derive(Drop)]
 pub struct Grader<P> {
     policy: P,

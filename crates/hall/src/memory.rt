@@ -21,10 +21,5 @@ pub fn blank_rules() -> [Rule<HallTest>; 64]
 pub fn blank_entries() -> [Entry; 32]
     ensures nothing_but_blanks { result ≡ replicate 32 blank_entry }
 {
-    [Entry {
-        first: 0,
-        second: 0,
-        start: 0,
-        duration: 0,
-    }; 32]
+    [Entry::default(); 32]
 }

@@ -2,7 +2,7 @@ ghost use Rattle.std.specs.Prelude.{◌≡◌, Decides};
 ghost use Rattle.rules.specs.Entries.{Live};
 
 // An assume entry: while it is live, a grant of the first role is a grant of the second too.
-#[derive(Clone, Copy)]
+#[derive(Clone, Copy, Default)]
 pub struct Entry {
     pub first: u8,
     pub second: u8,

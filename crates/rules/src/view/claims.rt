@@ -17,6 +17,7 @@ impl<'m, K: Kind> View<'m, K> {
         let mut granting = Set::new();
         let mut denying = Set::new();
         for (i, rule) in self.rules.iter().enumerate() {
+            // It fits, as in `numbers_of`.
             let number = i as u8;
             if !met.contains(number) {
                 continue;
