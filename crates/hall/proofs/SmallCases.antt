@@ -1,5 +1,6 @@
 -- The worked cases, line by line: each is left to tests that compute.
 use Rattle.std.proofs.Common.{◌≡◌, ℕ, ◌<◌, Bool, true, false, not, ◌&&◌, ◌||◌, eqb, ◌⊎◌, List, [], ◌∷◌, refl, ⊎_elim, lit<}
+use Rattle.std.proofs.lemmas.Option.{slice_get_within}
 use Rattle.std.specs.List.{AllByRecursion}
 use Rattle.std.proofs.lemmas.Bool.{cases_eq}
 use Rattle.std.proofs.lemmas.Bool.Decides.{Decides-and, Decides-or, Decides-not, Decides-eqb, not_from_Decides}
@@ -8,7 +9,6 @@ use Rattle.rules.specs.declared.shipped.Shipped.{Shipped}
 use Rattle.rules.specs.declared.shipped.Shipped.TheVariants.{Permission, Denial, LocalDenial}
 use Rattle.rules.specs.Rules.{Senior}
 use Rattle.rules.proofs.Computing.{some_below_is}
-use Rattle.rules.proofs.Places.{found_within}
 use Rattle.logs.specs.declared.refusal.Refusal.TheVariants.{NothingGrants, RuleDenies}
 use Rattle.logs.specs.Logs.{Plant}
 use Rattle.hall.specs.SmallHall.{small_rules}
@@ -64,7 +64,7 @@ alone i itself none = (
       (some_below_is 4 (other_comparable i) (λ k. (Senior small_book i k ⊎ Senior small_book k i) × (k ≡ i → ⊥))
       (λ k. Decides-and (over i k || over k i) (not (eqb k i)) (Decides-or (over i k) (over k i) (over_is i k) (over_is k i)) (Decides-not (eqb k i) (Decides-eqb k i))))
       none
-      (j, ⊎_elim (λ down. found_within small_rules j down.lower down.lower_found) (λ up. found_within small_rules j up.upper up.upper_found) s, (s, ne))))
+      (j, ⊎_elim (λ down. slice_get_within small_rules j down.lower down.lower_found) (λ up. slice_get_within small_rules j up.upper up.upper_found) s, (s, ne))))
       (cases_eq j i),
 )
 

@@ -1,9 +1,10 @@
 -- A log that is run call after call, the oldest first: what the replies written so far make, and that the calls stay.
 use Rattle.std.proofs.Common.{◌≡◌, ℕ, ◌+◌, ◌<◌, List, ◌∷◌, reverse, length, take, set, Some, Result, rules}
+use Rattle.std.proofs.lemmas.Option.{slice_get_within}
 use Rattle.std.specs.List.{slice_get}
 use Rattle.std.proofs.lemmas.List.{length-set, reverse-append, take_more_set}
 use Rattle.std.proofs.lemmas.Bool.{cases_eq}
-use Rattle.rules.proofs.Places.{found_within, found_one, found_set, found_other}
+use Rattle.rules.proofs.Places.{found_one, found_set, found_other}
 use Rattle.logs.specs.Promises.{SameCalls}
 use Rattle.logs.specs.declared.exchange.Exchange.{Exchange}
 use Rattle.logs.specs.declared.refusal.Refusal.{Refusal}
@@ -17,4 +18,4 @@ module _ {V : Type 0} where
   same_calls_none xs = search rules
 
   pub same_calls_more : (old xs : List (Exchange V)) (i : ℕ) (e : Exchange V) (r : Result Answer Refusal) → SameCalls old xs → slice_get xs i ≡ Some e → SameCalls old (set xs i (record { call = e.call; reply = r }))
-  same_calls_more old xs i e r same found = search (rules, length-set, found_within, found_one, found_set, found_other, cases_eq)
+  same_calls_more old xs i e r same found = search (rules, length-set, slice_get_within, found_one, found_set, found_other, cases_eq)

@@ -1,5 +1,6 @@
 -- The rows of a table of seniority, as a loop over the rules fills them in.
 use Rattle.std.proofs.Common.{◌≡◌, ℕ, zero, suc, ◌+◌, ◌<◌, ◌≤◌, false, List, length, set, replicate, Some, Decides, sym, refl, ap, ◌∙◌, subst, ⊎_elim, arith}
+use Rattle.std.proofs.lemmas.Option.{slice_get_within}
 use Rattle.std.specs.List.{slice_get}
 use Rattle.std.proofs.lemmas.Bool.{both_ways, cases_eq}
 use Rattle.std.proofs.lemmas.Bool.Decides.{Decides-like, Decides-at}
@@ -10,7 +11,7 @@ use Rattle.kinds.specs.Kinds.{Implied}
 use Rattle.rules.specs.declared.rule.Rule.{Rule}
 use Rattle.rules.specs.Ranks.{row_holds}
 use Rattle.rules.specs.Rules.{Book, Senior}
-use Rattle.rules.proofs.Places.{found_within, found_one, found_set, found_other}
+use Rattle.rules.proofs.Places.{found_one, found_set, found_other}
 use Rattle.rules.proofs.RuleLaws.{ImpliesAt}
 
 empty_row : (n : ℕ) (s : Set) (i j : ℕ) → ((k : ℕ) → member s k ≡ false) → row_holds (slice_get (replicate n s) i) j ≡ false
@@ -50,5 +51,5 @@ module _ {V S : Type 0} (b : Book V S) where
   pub ranked_all : (n : ℕ) (rows : List Set) → length b.rules ≤ n → Ranked n rows → (i j : ℕ) → Decides (row_holds (slice_get rows i) j) (Senior b i j)
   ranked_all n rows past ranked i j = Decides-like (row_holds (slice_get rows i) j)
       (λ w. w.1)
-      (λ s. (let lt = found_within b.rules i s.upper s.upper_found in omega arith, s))
+      (λ s. (let lt = slice_get_within b.rules i s.upper s.upper_found in omega arith, s))
       (ranked i j)

@@ -1,5 +1,6 @@
 -- The table of seniority of a rulebook, where a test tells which tests imply which.
 use Rattle.std.proofs.Common.{◌≡◌, ℕ, zero, suc, ◌<◌, ◌≤◌, Bool, List, [], length, set, replicate, Some, None, Decides, Option, refl, ◌∙◌, add-one, arith, length-set}
+use Rattle.std.proofs.lemmas.Option.{slice_get_within}
 use lib.ListN.{length-replicate}
 use Rattle.std.specs.List.{slice_get}
 use Rattle.sets.specs.declared.set.Set.{Set}
@@ -12,7 +13,7 @@ use Rattle.rules.specs.declared.seniority.Seniority.{Seniority}
 use Rattle.rules.specs.Ranks.{is_senior}
 use Rattle.rules.specs.Rules.{Book, Senior}
 use Rattle.rules.proofs.Deciding.{passes, passes_is}
-use Rattle.rules.proofs.Places.{found_within, found_nothing}
+use Rattle.rules.proofs.Places.{found_nothing}
 use Rattle.rules.proofs.RankLaws.{Ranked, ranked_none, ranked_more, ranked_all}
 use Rattle.rules.proofs.RuleLaws.{ImpliesAt}
 
@@ -24,7 +25,7 @@ module _ {V S : Type 0} (b : Book V S) (few : length b.rules ≤ 64) (implies : 
   juniors_are : (r : Rule S) → Holds (ImpliesAt b r.test) (juniors r)
   juniors_are r = such_holds (λ j. passes (λ q. implies r.test q.test) (slice_get b.rules j)) (ImpliesAt b r.test)
       (λ j. passes_is (λ q. implies r.test q.test) (λ q. Implied b.meaning r.test q.test) (λ q. told r.test q.test) (slice_get b.rules j))
-      (λ j w. let lt = found_within b.rules j w.0 w.1 in omega arith)
+      (λ j w. let lt = slice_get_within b.rules j w.0 w.1 in omega arith)
 
   abbrev row : Option (Rule S) → Set
   row None = these []

@@ -1,5 +1,6 @@
 -- What the loops over a rulebook gather.
 use Rattle.std.proofs.Common.{◌≡◌, ℕ, ◌+◌, ◌<◌, ◌≤◌, Bool, true, false, ◌&&◌, ◌||◌, eqb, ltb, ◌⊎◌, length, Some, Decides, sym, refl, ap, ◌∙◌, subst, inl, inr, ⊎_elim, arith}
+use Rattle.std.proofs.lemmas.Option.{slice_get_within}
 use Rattle.std.specs.List.{slice_get}
 use Rattle.std.proofs.lemmas.Bool.{both_ways, cases_eq}
 use Rattle.std.proofs.lemmas.Bool.Decides.{Decides-like, not_from_Decides}
@@ -12,11 +13,11 @@ use Rattle.rules.specs.declared.entry.Entry.{Entry}
 use Rattle.rules.specs.declared.rule.Rule.{Rule}
 use Rattle.rules.specs.Entries.{Live}
 use Rattle.rules.specs.Rules.{Book, Meets, Grants, Denies, Leads}
-use Rattle.rules.proofs.Places.{found_within, found_one}
+use Rattle.rules.proofs.Places.{found_one}
 
 module _ {V S : Type 0} (b : Book V S) where
   pub met_within : (v : V) (i : ℕ) → Meets b v i → i < length b.rules
-  met_within v i met = found_within b.rules i met.rule met.found
+  met_within v i met = slice_get_within b.rules i met.rule met.found
 
   -- some rule stands at the place, and its test is implied
   abbrev pub ImpliesAt : S → ℕ → Type 0
@@ -76,7 +77,7 @@ module _ {V S : Type 0} (b : Book V S) where
   pub source_all : (n role now : ℕ) (s : Set) → length b.entries ≤ n → Holds (Source n role now) s → Holds (λ from. (from < 64) × ((from ≡ role) ⊎ Leads b from role now)) s
   source_all n role now s past held from = Decides-like (member s from)
       (λ w. (w.0, ⊎_elim inl (λ l. inr l.0) w.1))
-      (λ w. (w.0, ⊎_elim inl (λ l. inr (l, let lt = found_within b.entries l.place l.entry l.found in omega arith)) w.1))
+      (λ w. (w.0, ⊎_elim inl (λ l. inr (l, let lt = slice_get_within b.entries l.place l.entry l.found in omega arith)) w.1))
       (held from)
 
   -- of the rules in a set, those that grant the role and those that deny it

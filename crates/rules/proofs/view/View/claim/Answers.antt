@@ -1,9 +1,10 @@
 use Rattle.std.proofs.Common.{◌<◌, sym, refl, arith}
+use Rattle.std.proofs.lemmas.Option.{slice_get_within}
 use Rattle.std.proofs.lemmas.Bool.{both_ways}
 use Rattle.sets.specs.Members.{member}
 use Rattle.sets.proofs.Gathering.{gathered_none, gathered_same, gathered_with, gathered_all}
 use Rattle.rules.specs.Rules.{seen}
-use Rattle.rules.proofs.Places.{found_here, found_within}
+use Rattle.rules.proofs.Places.{found_here}
 use Rattle.rules.proofs.RuleLaws.{grants_from, grants_not, denies_not}
 use Rattle.rules.proofs.view.View.claim.Goals as goal
 use Rattle.rules.proofs.view.View.claim.Goals.{then-not-is_disjoint, else-not-is_disjoint, then-contains, else-contains}
@@ -52,6 +53,6 @@ loop-i-preserved g c =
 
 pub returns : goal.returns
 returns g c = record {
-  granting_exactly_the_met_rules_that_grant_or_lead = gathered_all _ _ _ _ c.loop-i-test.false (λ k w. found_within c.args.self.now.rules.now k w.1.rule w.1.found) c.loop-i.invariant.0;
-  denying_exactly_the_met_rules_that_deny = gathered_all _ _ _ _ c.loop-i-test.false (λ k w. found_within c.args.self.now.rules.now k w.1.rule w.1.found) c.loop-i.invariant.1;
+  granting_exactly_the_met_rules_that_grant_or_lead = gathered_all _ _ _ _ c.loop-i-test.false (λ k w. slice_get_within c.args.self.now.rules.now k w.1.rule w.1.found) c.loop-i.invariant.0;
+  denying_exactly_the_met_rules_that_deny = gathered_all _ _ _ _ c.loop-i-test.false (λ k w. slice_get_within c.args.self.now.rules.now k w.1.rule w.1.found) c.loop-i.invariant.1;
 }

@@ -1,7 +1,8 @@
 use Rattle.std.proofs.Common.{refl, arith}
+use Rattle.std.proofs.lemmas.Option.{slice_get_within}
 use Rattle.std.specs.Fn.{FnReturnsAt}
 use Rattle.rules.proofs.Numbers.{asked_none, asked_same, asked_with}
-use Rattle.rules.proofs.Places.{found_here, found_within}
+use Rattle.rules.proofs.Places.{found_here}
 use Rattle.rules.proofs.view.View.numbers_of.Goals as goal
 use Rattle.rules.proofs.view.View.numbers_of.Goals.{then-passes, else-passes}
 
@@ -23,6 +24,6 @@ loop-i-preserved g c =
 
 pub returns : goal.returns
 returns g c = record {
-  members_are_the_numbers_of_rules_that_pass = λ i rule found. c.loop-i.invariant.0 i rule (let lt = found_within c.args.self.now.rules.now i rule found in omega (arith, lt, c.loop-i-test.false)) found;
+  members_are_the_numbers_of_rules_that_pass = λ i rule found. c.loop-i.invariant.0 i rule (let lt = slice_get_within c.args.self.now.rules.now i rule found in omega (arith, lt, c.loop-i-test.false)) found;
   members_are_numbers_of_rules = λ i held. let lt = c.loop-i.invariant.1 i held in omega (arith, lt, c.loop-i.auto.i-end);
 }
