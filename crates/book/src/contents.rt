@@ -77,11 +77,10 @@ fn read_end(body: &[u8]) -> Result<(), RecordFault>
 fn split_set<'a>(bytes: &'a [u8]) -> Result<(Set, &'a [u8]), RecordFault>
     ensures set_and_what_follows { SetSplit bytes.now result }
 {
-    let [b0, b1, b2, b3, b4, b5, b6, b7, rest @ ..] = bytes else {
-        return Err(RecordFault::WrongLength);
-    };
-    let set = Set::from_le_bytes([*b0, *b1, *b2, *b3, *b4, *b5, *b6, *b7]);
-    Ok((set, rest))
+    let (first, rest) = bytes
+        .split_first_chunk::<8>()
+        .ok_or(RecordFault::WrongLength)?;
+    Ok((Set::from_le_bytes(*first), rest))
 }
 
 fn read_rule<K: FileKind>(body: &[u8]) -> Result<Rule<K::Test>, RecordFault>

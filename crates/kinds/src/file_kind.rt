@@ -25,11 +25,6 @@ pub trait FileKind: Kind {
 pub(crate) fn read_set(bytes: &[u8]) -> Result<(Set, usize), TestFault>
     ensures the_first_8_bytes_as_a_set { result ≡ read_set bytes.now }
 {
-    let [b0, b1, b2, b3, b4, b5, b6, b7, ..] = bytes else {
-        return Err(TestFault::TooShort);
-    };
-    Ok((
-        Set::from_le_bytes([*b0, *b1, *b2, *b3, *b4, *b5, *b6, *b7]),
-        8,
-    ))
+    let first = bytes.first_chunk::<8>().ok_or(TestFault::TooShort)?;
+    Ok((Set::from_le_bytes(*first), 8))
 }

@@ -40,9 +40,7 @@ impl FileKind for Level {
     ghost uses_no_more_bytes_than_there_are = { Prim.search rules };
 
     fn read_test(bytes: &[u8]) -> Result<(u16, usize), TestFault> {
-        let [low, high, ..] = bytes else {
-            return Err(TestFault::TooShort);
-        };
-        Ok((u16::from_le_bytes([*low, *high]), 2))
+        let first = bytes.first_chunk::<2>().ok_or(TestFault::TooShort)?;
+        Ok((u16::from_le_bytes(*first), 2))
     }
 }
