@@ -12,7 +12,8 @@ mod ranks;
 mod roles;
 mod verdicts;
 
-// A rulebook as it is read: the rules and entries that the caller lends, taken up anew at each call.
+// A rulebook as it is read: the rules and entries that the caller lends, taken up anew at each call. Clauses read it by `seen`:
+// a model's value can hold no function, and a kind's meaning is one.
 #[derive(Drop)]
 pub struct View<'m, K: Kind> {
     rules: &'m [Rule<K::Test>],

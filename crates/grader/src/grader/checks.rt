@@ -37,6 +37,7 @@ pub(super) fn check_person<V>(person: u16, register: &[V]) -> Result<(), Refusal
     Ok(())
 }
 
+// Not one function with `check_panel`: each call would have to name the limit and the refusal.
 pub(super) fn check_role(role: u8) -> Result<(), Refusal>
     ensures stops_where_there_is_no_such_role { Stops NoSuchRole (63 < role) result }
 {
