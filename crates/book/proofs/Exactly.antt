@@ -19,6 +19,7 @@ use Rattle.rules.specs.declared.entry.Entry.{Entry}
 use Rattle.book.specs.declared.contents.Content.{Content}
 use Rattle.book.specs.declared.opened.Opened.{Opened}
 use Rattle.book.specs.declared.count.Count.{Count}
+use Rattle.book.specs.declared.count.TheConstants.{MOST_RULES, MOST_ENTRIES}
 use Rattle.sets.specs.Bytes.{little}
 use Rattle.book.specs.Frames.{cut}
 use Rattle.kinds.specs.Readings.{Reading}
@@ -51,8 +52,8 @@ same_opened b o k x y =
     let rules : o.book.rules ≡ k.book.rules = one_count o.book.rules k.book.rules (x.rules_are ∙ sym y.rules_are) in
     let entries : o.book.entries ≡ k.book.entries = one_count o.book.entries k.book.entries (x.entries_are ∙ sym y.entries_are) in
     let policy : o.policy ≡ k.policy = one_code o.policy k.policy (same_some (x.policy_is ∙ sym y.policy_is)) in
-    ap (λ (s : Count 64). record { book = record { rules = s; entries = o.book.entries }; policy = o.policy }) rules
-    ∙ ap (λ (s : Count 32). record { book = record { rules = k.book.rules; entries = s }; policy = o.policy }) entries
+    ap (λ (s : Count MOST_RULES). record { book = record { rules = s; entries = o.book.entries }; policy = o.policy }) rules
+    ∙ ap (λ (s : Count MOST_ENTRIES). record { book = record { rules = k.book.rules; entries = s }; policy = o.policy }) entries
     ∙ ap (λ p. record { book = k.book; policy = p }) policy
 
 abbrev whole : List (List ℕ) → List ℕ

@@ -1,6 +1,7 @@
 use Rattle.std.proofs.Common.{length, Ok, ap, arith, rules}
 use Rattle.std.proofs.lemmas.Result.{err_from_is_err_and}
 use Rattle.book.specs.declared.count.Count.{Count}
+use Rattle.book.specs.declared.count.TheConstants.{MOST_RULES, MOST_ENTRIES}
 use Rattle.book.specs.declared.faults.BookFault.TheVariants.{Trailing}
 use Rattle.book.specs.declared.faults.Fault.TheVariants.{Rulebook}
 use Rattle.book.proofs.Stepping.{fault_is}
@@ -43,6 +44,6 @@ returns g c = record {
   accepts_exactly_well_formed_files_and_refuses_at_the_first_faulty_record =
       told g.K.FileKind.reads g.K.Kind.meaning.lawful_test c.args.bytes.now c.args.rules.now c.args.entries.now c.loop-scan.rules c.loop-scan.entries (Ok c.finish.result)
       (accepted g.K.FileKind.reads g.K.Kind.meaning.lawful_test c.args.bytes.now c.loop-scan.reader c.loop-scan.scan c.args.rules.now c.loop-scan.rules c.args.entries.now c.loop-scan.entries c.loop-scan.invariant c.finish.result
-      c.finish.ensures.policy_of_the_header (ap (λ (k : Count 64). k.count) c.finish.ensures.rules_of_the_draft) (ap (λ (k : Count 32). k.count) c.finish.ensures.entries_of_the_draft) c.if-reader-bytes.false c.loop-scan-test.false);
+      c.finish.ensures.policy_of_the_header (ap (λ (k : Count MOST_RULES). k.count) c.finish.ensures.rules_of_the_draft) (ap (λ (k : Count MOST_ENTRIES). k.count) c.finish.ensures.entries_of_the_draft) c.if-reader-bytes.false c.loop-scan-test.false);
   reading_is_fixed_by_the_bytes_and_the_memory = exact g.K.FileKind.reads g.K.Kind.meaning.lawful_test;
 }
