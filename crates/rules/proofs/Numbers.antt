@@ -1,7 +1,7 @@
 -- The loop that asks each rule for its number.
 use Rattle.std.proofs.Common.{◌≡◌, ℕ, ◌+◌, ◌<◌, Bool, true, false, ◌&&◌, ◌||◌, eqb, ltb, List, length, Some, Decides, sym, refl, ap, ◌∙◌, subst, ⊎_elim, arith}
 use Rattle.std.specs.List.{slice_get}
-use Rattle.std.proofs.lemmas.Bool.{cases_eq, cases_Bool, both_ways, and_from, or_right, eq-eqb, lt-ltb}
+use Rattle.std.proofs.lemmas.Bool.{cases_eq, cases_Bool, and_from, or_right, eq-eqb, lt-ltb}
 use Rattle.std.proofs.lemmas.Option.{slice_get_cases}
 use Rattle.sets.specs.declared.set.Set.{Set}
 use Rattle.sets.specs.Members.{member}
@@ -14,12 +14,6 @@ Asked {S} answers rules n s =
     ((k : ℕ) (rule : Rule S) → k < n → slice_get rules k ≡ Some rule → answers rule (member s k)) × ((k : ℕ) → member s k ≡ true → k < n)
 
 module _ {S : Type 0} (answers : Rule S → Bool → Type 0) (rules : List (Rule S)) where
-  pub asked_none : (s : Set) → ((k : ℕ) → member s k ≡ false) → Asked answers rules 0 s
-  asked_none s none = (
-    (λ k rule lt. let z : ⊥ = omega (arith, lt) in absurd z),
-    (λ k held. absurd (both_ways (member s k) (none k) held)),
-  )
-
   -- one rule more, whose number is then in the set exactly where it passed
   asked_more : (i : ℕ) (rule : Rule S) (s u : Set) → slice_get rules i ≡ Some rule → answers rule (member u i) → ((k : ℕ) → (k ≡ i → ⊥) → member u k ≡ member s k) → Asked answers rules i s → Asked answers rules (i + 1) u
   asked_more i rule s u found here same before = (

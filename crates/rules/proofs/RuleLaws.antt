@@ -7,7 +7,7 @@ use Rattle.std.proofs.lemmas.Bool.Decides.{Decides-like, not_from_Decides}
 use Rattle.sets.specs.declared.set.Set.{Set}
 use Rattle.sets.specs.Members.{member}
 use Rattle.sets.proofs.MemberLaws.{member_below, shared_member}
-use Rattle.sets.proofs.Gathering.{Holds, holds_none, holds_like, holds_with}
+use Rattle.sets.proofs.Gathering.{Holds, holds_like, holds_with}
 use Rattle.kinds.specs.Kinds.{Implied}
 use Rattle.rules.specs.declared.entry.Entry.{Entry}
 use Rattle.rules.specs.declared.rule.Rule.{Rule}
@@ -41,14 +41,6 @@ module _ {V S : Type 0} (b : Book V S) where
         (λ ne. let lt = w.1 in omega arith)
         (cases_eq w.0.place n),
   )
-
-  pub source_first : (role now : ℕ) (s t : Set) → ((k : ℕ) → member s k ≡ false) → ((k : ℕ) → member t k ≡ (member s k || (eqb k role && ltb k 64))) → Holds (Source 0 role now) t
-  source_first role now s t empty with-is = holds_with (λ k. ⊥) (Source 0 role now) s t t role refl with-is
-      (λ k none. absurd none)
-      (λ lt. (lt, inl refl))
-      (λ k w ne. ⊎_elim ne (λ l. let lt = l.1 in let z : ⊥ = omega arith in z) w.1)
-      (λ k w. w.0)
-      (holds_none (λ k. ⊥) s empty (λ k none. none))
 
   further : (n role now k : ℕ) → Source n role now k → Source (n + 1) role now k
   further n role now k w = (w.0, ⊎_elim inl (λ l. inr (l.0, let lt = l.1 in omega arith)) w.1)

@@ -2,13 +2,6 @@ use Rattle.std.proofs.Common.{sym}
 use Rattle.sets.proofs.MemberLaws.{some_member}
 use Rattle.rules.proofs.claim.Claim.judged.Goals as goal
 
-pub returns-then-is_allowed : goal.returns-then-is_allowed
-returns-then-is_allowed g c = record { entitled_exactly_when_the_policy_says_yes = sym c.if-is_allowed.ensures.what_the_policy_says }
-
-pub returns-then-is_empty : goal.returns-then-is_empty
-returns-then-is_empty g c = record
-    { entitled_exactly_when_the_policy_says_yes = c.is_empty.ensures.tells_whether_no_number_is_a_member.0 c.if-is_empty.true }
-
 pub returns : goal.returns
 returns g c = record {
   entitled_exactly_when_the_policy_says_yes = (

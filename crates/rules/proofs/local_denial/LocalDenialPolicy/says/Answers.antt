@@ -1,4 +1,4 @@
-use Rattle.std.proofs.Common.{◌≡◌, sym, ap, ◌∙◌, ⊎_elim, arith}
+use Rattle.std.proofs.Common.{sym, ap, ◌∙◌, ⊎_elim}
 use Rattle.std.proofs.lemmas.Bool.{cases_Bool}
 use Rattle.std.proofs.lemmas.Bool.Decides.{not_from_Decides}
 use Rattle.sets.proofs.Reading.{read_on, read_all}
@@ -7,11 +7,6 @@ use Rattle.rules.proofs.LocalLaws.{apart_from, apart_not_below}
 use Rattle.rules.specs.PolicyLaws.{Apart, local_decides}
 use Rattle.rules.proofs.local_denial.LocalDenialPolicy.says.Goals as goal
 use Rattle.rules.proofs.local_denial.LocalDenialPolicy.says.Goals.{else-not-contains-via-then-not-contains+else-above_none, else-not-contains-via-else-not-contains}
-
-pub loop-i-init : goal.loop-i-init
-loop-i-init c =
-    let start : c.into_iter-i-iterator.result.from ≡ 0 = cc in
-    ((λ k held lt. let z : ⊥ = omega (arith, start, lt) in absurd z), cc)
 
 pub returns-then-above_none : goal.returns-then-above_none
 returns-then-above_none c =

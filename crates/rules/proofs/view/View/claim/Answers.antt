@@ -2,15 +2,12 @@ use Rattle.std.proofs.Common.{◌<◌, sym, refl, arith}
 use Rattle.std.proofs.lemmas.Option.{slice_get_within}
 use Rattle.std.proofs.lemmas.Bool.{both_ways}
 use Rattle.sets.specs.Members.{member}
-use Rattle.sets.proofs.Gathering.{gathered_none, gathered_same, gathered_with, gathered_all}
+use Rattle.sets.proofs.Gathering.{gathered_same, gathered_with, gathered_all}
 use Rattle.rules.specs.Rules.{seen}
 use Rattle.rules.proofs.Places.{found_here}
 use Rattle.rules.proofs.RuleLaws.{grants_from, grants_not, denies_not}
 use Rattle.rules.proofs.view.View.claim.Goals as goal
 use Rattle.rules.proofs.view.View.claim.Goals.{then-not-is_disjoint, else-not-is_disjoint, then-contains, else-contains}
-
-pub loop-i-init : goal.loop-i-init
-loop-i-init g c = (gathered_none _ c.new-granting.result c.new-granting.ensures.no_number_is_a_member, gathered_none _ c.new-denying.result c.new-denying.ensures.no_number_is_a_member)
 
 pub loop-i-preserved-then-not-contains : goal.loop-i-preserved-then-not-contains
 loop-i-preserved-then-not-contains g c =

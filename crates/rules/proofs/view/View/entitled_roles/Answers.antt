@@ -1,13 +1,10 @@
 use Rattle.std.proofs.Common.{arith}
 use Rattle.std.proofs.lemmas.Bool.Decides.{Decides-at, Decides-like, not_from_Decides}
-use Rattle.sets.proofs.Gathering.{gathered_none, gathered_same, gathered_with}
+use Rattle.sets.proofs.Gathering.{gathered_same, gathered_with}
 use Rattle.rules.specs.Rules.{seen}
 use Rattle.rules.proofs.VerdictLaws.{over_is, over_allowed}
 use Rattle.rules.proofs.view.View.entitled_roles.Goals as goal
 use Rattle.rules.proofs.view.View.entitled_roles.Goals.{then-is_allowed, else-is_allowed}
-
-pub loop-role-init : goal.loop-role-init
-loop-role-init g c = gathered_none _ c.new-roles.result c.new-roles.ensures.no_number_is_a_member
 
 pub loop-role-preserved : goal.loop-role-preserved
 loop-role-preserved g c =

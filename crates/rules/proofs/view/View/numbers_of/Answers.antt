@@ -1,13 +1,10 @@
 use Rattle.std.proofs.Common.{refl, arith}
 use Rattle.std.proofs.lemmas.Option.{slice_get_within}
 use Rattle.std.specs.Fn.{FnReturnsAt}
-use Rattle.rules.proofs.Numbers.{asked_none, asked_same, asked_with}
+use Rattle.rules.proofs.Numbers.{asked_same, asked_with}
 use Rattle.rules.proofs.Places.{found_here}
 use Rattle.rules.proofs.view.View.numbers_of.Goals as goal
 use Rattle.rules.proofs.view.View.numbers_of.Goals.{then-passes, else-passes}
-
-pub loop-i-init : goal.loop-i-init
-loop-i-init g c = asked_none (FnReturnsAt g.F.Fn c.args.passes) c.args.self.now.rules.now c.new-numbers.result c.new-numbers.ensures.no_number_is_a_member
 
 pub loop-i-preserved : goal.loop-i-preserved
 loop-i-preserved g c =

@@ -1,14 +1,9 @@
 use Rattle.std.proofs.lemmas.Option.{slice_get-get_or}
 use Rattle.std.proofs.lemmas.Bool.Decides.{not_from_Decides}
 use Rattle.rules.specs.Rules.{seen}
-use Rattle.rules.proofs.RuleLaws.{source_first, source_same, source_with, source_all}
+use Rattle.rules.proofs.RuleLaws.{source_same, source_with, source_all}
 use Rattle.rules.proofs.view.View.sources.Goals as goal
 use Rattle.rules.proofs.view.View.sources.Goals.{then-leads_to, else-leads_to}
-
-pub loop-entry-init : goal.loop-entry-init
-loop-entry-init g c =
-    source_first (seen g.K.Kind.meaning c.args.self.now) c.args.role c.args.minute c.new.result c.with-sources.result
-    c.new.ensures.no_number_is_a_member c.with-sources.ensures.members_are_those_before_and_this_one
 
 pub loop-entry-preserved : goal.loop-entry-preserved
 loop-entry-preserved g c =
