@@ -8,9 +8,6 @@ use Rattle.sets.proofs.set.Set.with.Goals as goal
 pub invariant_of-result : goal.invariant_of-result
 invariant_of-result c = record { small = or_lt 64 c.args.self.bits _ c.args.self.small (mod_below _ (2 ^ 64) (omega arith)) }
 
-pub returns-then-i-ge64 : goal.returns-then-i-ge64
-returns-then-i-ge64 c = record { members_are_those_before_and_this_one = λ k. let p = c.if-i-ge64.true in grind (arith, nat_tests) }
-
 pub returns : goal.returns
 unfolding member
 returns c = record {

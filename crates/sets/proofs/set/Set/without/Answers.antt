@@ -1,13 +1,10 @@
-use Rattle.std.proofs.Common.{◌-◌, ◌^◌, not, ◌&&◌, ltb, ap, ◌∙◌, lt_of_le_of_lt, arith}
-use Rattle.std.proofs.lemmas.Nat.{and_le_l, one_shl, pow_below}
+use Rattle.std.proofs.Common.{◌-◌, ◌^◌, not, ◌&&◌, ltb, ap, ◌∙◌, arith}
+use Rattle.std.proofs.lemmas.Nat.{one_shl, pow_below}
 use Rattle.std.proofs.lemmas.Bool.Decides.{nat_tests}
 use Rattle.sets.specs.Members.{bit, member}
 use Rattle.sets.proofs.BitLaws.{bit-and, bit_not, bit-one}
 use Rattle.sets.proofs.MemberLaws.{member_below}
 use Rattle.sets.proofs.set.Set.without.Goals as goal
-
-pub invariant_of-result : goal.invariant_of-result
-invariant_of-result c = record { small = lt_of_le_of_lt (and_le_l c.args.self.bits _) c.args.self.small }
 
 pub returns-then-i-ge64 : goal.returns-then-i-ge64
 returns-then-i-ge64 c = record {
