@@ -56,7 +56,8 @@ pub struct At<F> {
     pub fault: F,
 }
 
-// Why a file is refused: the fault, and the byte place where the faulty record starts.
+// Why a file is refused: the fault, and the byte place where the faulty record starts. No `At<Fault>`: what turns `At<F>` into
+// it for each fault would be a second conversion of `At<Fault>` into itself.
 #[derive(Clone, Copy)]
 pub struct FileFault {
     place: usize,

@@ -20,7 +20,7 @@ use Rattle.rules.specs.Rules.{Book}
 use Rattle.tables.specs.declared.seat.Seat.{Seat}
 use Rattle.tables.specs.Loans.{standing, Filtered, OnLoan as LentAlready}
 use Rattle.tables.specs.Panels.{seat_at, person_at, Trimmed}
-use Rattle.tables.specs.Settings.{Setting, ByRules, DeniedBy}
+use Rattle.tables.specs.Settings.{Setting, ByRules, DeniedBy, Grounds}
 use Rattle.tables.specs.Verdicts.{Lowest}
 use Rattle.logs.specs.Moments.{Moment, ByTable, MayStand}
 use Rattle.logs.specs.declared.refusal.Refusal.{Refusal}
@@ -62,7 +62,7 @@ module _ {P V S : Type 0} (s : Setting V S) (g : Grader P) where
       (record { clock = s.minute; panels = g.panels.seats; loans = standing g.loans; records = s.records })
 
   abbrev pub OnGrounds : ℕ → ℕ → Type 0
-  OnGrounds person role = ByRules s person role ⊎ LentAlready (standing g.loans) person role
+  OnGrounds = Grounds s (standing g.loans)
 
   pub record GrantedSeat (panel role : ℕ) (seat : Seat) : Type 0 where
     pub there : Seated g panel seat

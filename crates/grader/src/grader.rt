@@ -15,7 +15,8 @@ mod settling;
 pub use making::Ready;
 
 // What a grader holds between calls. Rules, entries and register are lent to each call that uses them, as parameters of
-// their own: the memory is the caller's, and no value of ours outlives the call. Within a call they travel as a `Ruling`.
+// their own: that is the form set for the calls. Within a call they travel as a `Ruling`. Each call says by itself that
+// policy and table stay: that is a word on two graders, before and after, and no fact about one.
 #[derive(Drop)]
 pub struct Grader<P> {
     policy: P,

@@ -8,7 +8,7 @@ use Rattle.sets.specs.declared.set.Set.{Set}
 use Rattle.sets.specs.Members.{member}
 use Rattle.sets.proofs.MemberLaws.{member_below, shared_member}
 use Rattle.sets.proofs.Gathering.{Holds, holds_like, holds_with}
-use Rattle.kinds.specs.Kinds.{Implied}
+use Rattle.kinds.specs.Kinds.{Implied, meets}
 use Rattle.rules.specs.declared.entry.Entry.{Entry}
 use Rattle.rules.specs.declared.rule.Rule.{Rule}
 use Rattle.rules.specs.Entries.{Live}
@@ -16,6 +16,12 @@ use Rattle.rules.specs.Rules.{Book, Meets, Grants, Denies, Leads}
 use Rattle.rules.proofs.Places.{found_one}
 
 module _ {V S : Type 0} (b : Book V S) where
+  -- a rule whose test the record does not meet is not met
+  pub meets_not : (v : V) (i : ℕ) (rule : Rule S) → slice_get b.rules i ≡ Some rule → meets b.meaning v rule.test ≡ false → Meets b v i → ⊥
+  meets_not v i rule found e met =
+      both_ways (meets b.meaning v rule.test) e
+      (ap (λ (r : Rule S). meets b.meaning v r.test) (found_one b.rules i rule met.rule found met.found) ∙ met.met)
+
   pub met_within : (v : V) (i : ℕ) → Meets b v i → i < length b.rules
   met_within v i met = slice_get_within b.rules i met.rule met.found
 

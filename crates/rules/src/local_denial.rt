@@ -23,6 +23,7 @@ impl Policy for LocalDenial {
 
     fn says(&self, granting: Set, denying: Set, senior: &Seniority) -> bool {
         let below = below_some(denying, senior);
+        // A `for`: of `any` over an iterator of our own the proof did not close.
         for i in granting.members() {
             if !below.contains(i) && above_none(i, denying, senior) {
                 return true;

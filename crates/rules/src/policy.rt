@@ -4,7 +4,8 @@ ghost use Rattle.rules.specs.Policies.{Judge, NothingGrantingIsNo, GrantingAndNo
 use crate::seniority::Seniority;
 use sets::Set;
 
-// A conflict policy. For one role it is told the granting rules met, the denying rules met and the seniority among rules.
+// A conflict policy. For one role it is told the granting rules met, the denying rules met and the seniority among rules:
+// the three that a `Judge` takes, so that a policy reads as its meaning does, and not a `Claim` to be taken apart.
 pub trait Policy {
     ghost judge: { Self → Judge };
 

@@ -42,22 +42,29 @@ impl fmt::Display for Rulebook {
             f,
             "edition 2, policy {code} ({policy}), {rule_count} {rule_word}, {entry_count} {entry_word}"
         )?;
-        for (number, rule) in self.rules.iter().take(rule_count).enumerate() {
-            let line = Numbered {
-                number,
-                item: *rule,
-            };
-            write!(f, "\n{line}")?;
-        }
-        for (number, entry) in self.entries.iter().take(entry_count).enumerate() {
-            let line = Numbered {
-                number,
-                item: *entry,
-            };
-            write!(f, "\n{line}")?;
-        }
+        lines(f, &self.rules, rule_count)?;
+        lines(f, &self.entries, entry_count)?;
         Ok(())
     }
+}
+
+// The first of the items, each with its number on a line of its own.
+fn lines<T: Copy, W: fmt::Write>(
+    f: &mut fmt::Formatter<W>,
+    items: &[T],
+    count: usize,
+) -> fmt::Result
+where
+    Numbered<T>: fmt::Display,
+{
+    for (number, item) in items.iter().take(count).enumerate() {
+        let line = Numbered {
+            number,
+            item: *item,
+        };
+        write!(f, "\n{line}")?;
+    }
+    Ok(())
 }
 
 // `book FILE`: the rulebook in words, or the refusal.

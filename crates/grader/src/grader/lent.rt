@@ -11,7 +11,8 @@ use rules::{Entry, Policy, Rule, Seniority};
 use tables::Ruling;
 
 impl<P: Policy> Grader<P> {
-    // The ruling over what is lent to a call, by the grader's policy and clock and a copy of its table of seniority.
+    // The ruling over what is lent to a call, by the grader's policy and clock and a copy of its table of seniority: that the
+    // table is copied to a local before the policy is asked is the form set for the calls.
     pub(super) fn ruling<'m, K: Kind>(
         &'m self,
         senior: &'m Seniority,

@@ -57,6 +57,7 @@ impl<P> Grader<P> {
         ensures carries_every_log_on { (p : Plant K.Value K.Test) (vs : List K.Value) → Carries p self.now vs (Roles panel) (roles_reply result) self.now vs }
     {
         check_panel(panel)?;
+        // By cases: `map_or` would name the closed panel's answer first.
         match self.panels.seat(panel) {
             Some(seat) => Ok(seat.active),
             None => Ok(Set::new()),

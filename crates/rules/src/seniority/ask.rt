@@ -16,9 +16,6 @@ impl Seniority {
     pub fn juniors(&self, i: u8) -> Set
         ensures members_are_the_juniors { (j : ℕ) → member result j ≡ is_senior self.now i j }
     {
-        match self.rows.get(usize::from(i)) {
-            Some(row) => *row,
-            None => Set::new(),
-        }
+        self.rows.get(usize::from(i)).copied().unwrap_or(Set::new())
     }
 }

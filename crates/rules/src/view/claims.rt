@@ -13,11 +13,12 @@ impl<'m, K: Kind> View<'m, K> {
         ensures granting_exactly_the_met_rules_that_grant_or_lead { (i : ℕ) → Decides (member result.granting i) ((member met i ≡ true) × Grants (seen K.meaning self.now) role minute i) }
         ensures denying_exactly_the_met_rules_that_deny { (i : ℕ) → Decides (member result.denying i) ((member met i ≡ true) × Denies (seen K.meaning self.now) role i) }
     {
+        // A loop over the rules with their index is the form set for this place: it gathers both sets in one pass.
         let sources = self.sources(role, minute);
         let mut granting = Set::new();
         let mut denying = Set::new();
         for (i, rule) in self.rules.iter().enumerate() {
-            // It fits, as in `numbers_of`.
+            // Exact, as in `numbers_of`.
             let number = i as u8;
             if !met.contains(number) {
                 continue;

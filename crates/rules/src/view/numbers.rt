@@ -16,7 +16,8 @@ impl<'m, K: Kind> View<'m, K> {
         ensures members_are_the_numbers_of_rules_that_pass { (i : ℕ) (rule : Rule K.Test) → slice_get self.now.rules.now i ≡ Some rule → FnReturnsAt F.Fn passes rule (member result i) }
         ensures members_are_numbers_of_rules { (i : ℕ) → member result i ≡ true → i < length self.now.rules.now }
     {
-        // A view has 64 rules at most, so that each number fits; a conversion that can fail would be a branch that never runs.
+        // A view has 64 rules at most, so the cast is exact. A range of bytes zipped with the rules would hide that a number is
+        // a rule's index.
         let mut numbers = Set::new();
         for (i, rule) in self.rules.iter().enumerate() {
             if passes(rule) {

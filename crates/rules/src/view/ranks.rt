@@ -16,6 +16,7 @@ impl<'m, K: Kind> View<'m, K> {
     pub fn seniority(&self) -> Seniority
         ensures senior_exactly_when_its_test_implies_the_other { (i j : ℕ) → Decides (is_senior result i j) (Senior (seen K.meaning self.now) i j) }
     {
+        // By index: of what an adapter of `iter_mut` leaves behind, a proof learns nothing.
         let mut rows = [Set::new(); 64];
         for (i, rule) in self.rules.iter().enumerate() {
             rows[i] = self.implied_by(rule.test);

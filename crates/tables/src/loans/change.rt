@@ -34,12 +34,11 @@ impl Loans {
     pub fn retain<T: Keep>(&mut self, test: &T)
         ensures keeps_exactly_the_loans_that_pass { Filtered (T.passes test.now) (standing self.old) (standing self.new) }
     {
-        // By index: no iterator lends an array to read and to write at once.
+        let before = *self;
         let mut kept = 0;
-        for i in 0..self.count {
-            let loan = self.items[i];
-            if test.keeps(loan) {
-                self.items[kept] = loan;
+        for loan in before.standing() {
+            if test.keeps(*loan) {
+                self.items[kept] = *loan;
                 kept += 1;
             }
         }

@@ -14,6 +14,7 @@ impl<K: Kind, P: Policy> Ruling<'_, K, P> {
     pub fn met(&self, person: u16) -> Set
         ensures members_are_exactly_the_rules_met { (i : ℕ) → Decides (member result i) (MetBy (setting K.meaning P.judge self.now) person i) }
     {
+        // By cases: `map_or` would name the answer for nobody first.
         match self.register.get(usize::from(person)) {
             Some(value) => self.view.met_by(*value),
             None => Set::new(),
