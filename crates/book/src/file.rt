@@ -17,7 +17,7 @@ fn placed<X, F>(place: usize, answer: Result<X, F>) -> Result<X, At<F>>
     answer.map_err(|fault| At { place, fault })
 }
 
-// Takes the next record.
+// Takes the next record. Rules and entries stay the two slices that the caller lends, each written by itself.
 fn step<K: FileKind>(
     reader: &mut Reader,
     scan: &mut Scan,

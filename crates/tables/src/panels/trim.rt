@@ -23,7 +23,8 @@ impl Panels {
     }
 }
 
-// The seat with its person and those of its active roles to which the person is entitled.
+// The seat with its person and those of its active roles to which the person is entitled: by the ruling, or by the loans that
+// stand, which no ruling holds since it may end them.
 fn trimmed<K: Kind, P: Policy>(
     seat: Option<Seat>,
     ruling: &Ruling<'_, K, P>,

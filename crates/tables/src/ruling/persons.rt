@@ -21,7 +21,8 @@ impl<K: Kind, P: Policy> Ruling<'_, K, P> {
         }
     }
 
-    // The rules that the person meets and that grant or deny the role.
+    // The rules that the person meets and that grant or deny the role. The two come as the words of a call that they are: a
+    // struct of them would be taken apart where it is made.
     pub fn claim(&self, person: u16, role: u8) -> Claim
         ensures granting_exactly_the_met_rules_that_grant_or_lead { (i : ℕ) → Decides (member result.granting i) (GrantedBy (setting K.meaning P.judge self.now) person role i) }
         ensures denying_exactly_the_met_rules_that_deny { (i : ℕ) → Decides (member result.denying i) (DeniedBy (setting K.meaning P.judge self.now) person role i) }
