@@ -1,3 +1,4 @@
+pub mod Listed
 pub mod SmallCases
 pub mod SmallFiles
 pub mod SmallRuling

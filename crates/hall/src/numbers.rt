@@ -1,3 +1,6 @@
+ghost use Rattle.std.specs.Prelude.{Some};
+ghost use Rattle.hall.specs.Shown.{numbers_text};
+
 use sets::Set;
 use std::fmt;
 
@@ -6,18 +9,22 @@ use std::fmt;
 pub struct Numbers(pub Set);
 
 impl fmt::Display for Numbers {
+    ghost output = { λ n. Some (numbers_text n.0) };
+
     fn fmt<W: fmt::Write>(&self, f: &mut fmt::Formatter<W>) -> fmt::Result {
-        if self.0.is_empty() {
+        let set = self.0;
+        if set.is_empty() {
             return f.write_str("-");
         }
-        if self.0 == Set::all() {
+        if Set::all().is_subset(set) {
             return f.write_str("all");
         }
-        for (place, i) in self.0.members().enumerate() {
-            if place > 0 {
-                f.write_str(",")?;
+        let mut members = set.members();
+        if let Some(first) = members.next() {
+            write!(f, "{first}")?;
+            for i in members {
+                write!(f, ",{i}")?;
             }
-            write!(f, "{i}")?;
         }
         Ok(())
     }

@@ -1,3 +1,6 @@
+ghost use Rattle.std.specs.Prelude.{Some};
+ghost use Rattle.hall.specs.Shown.{rule_text, entry_text};
+
 use crate::numbers::Numbers;
 use crate::record::HallTest;
 use rules::{Entry, Rule};
@@ -11,6 +14,8 @@ pub struct Numbered<T> {
 }
 
 impl fmt::Display for Numbered<Rule<HallTest>> {
+    ghost output = { λ r. Some (rule_text r) };
+
     fn fmt<W: fmt::Write>(&self, f: &mut fmt::Formatter<W>) -> fmt::Result {
         let number = self.number;
         let (level, (certificates, sites)) = self.item.test;
@@ -26,6 +31,8 @@ impl fmt::Display for Numbered<Rule<HallTest>> {
 }
 
 impl fmt::Display for Numbered<Entry> {
+    ghost output = { λ e. Some (entry_text e) };
+
     fn fmt<W: fmt::Write>(&self, f: &mut fmt::Formatter<W>) -> fmt::Result {
         let number = self.number;
         let Entry {
