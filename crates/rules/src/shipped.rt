@@ -25,7 +25,7 @@ pub enum Shipped {
 pub struct UnknownCode(pub u16);
 
 impl Shipped {
-    // Its code in a rulebook file; not by `From`, since not every number of that type is a policy.
+    // Its code in a rulebook file. A method, since its name says which number is meant.
     pub fn code(self) -> u16
         ensures code_of_the_policy { result ≡ code self }
     {
