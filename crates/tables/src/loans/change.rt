@@ -34,11 +34,13 @@ impl Loans {
     pub fn retain<T: Keep>(&mut self, test: &T)
         ensures keeps_exactly_the_loans_that_pass { Filtered (T.passes test.now) (standing self.old) (standing self.new) }
     {
-        let before = *self;
+        // By index, in place: over a copy of the table, of which 32 places are copied however few loans stand, a sweep of two
+        // loans or fewer takes two to three times as long.
         let mut kept = 0;
-        for loan in before.standing() {
-            if test.keeps(*loan) {
-                self.items[kept] = *loan;
+        for i in 0..self.count {
+            let loan = self.items[i];
+            if test.keeps(loan) {
+                self.items[kept] = loan;
                 kept += 1;
             }
         }
