@@ -15,7 +15,7 @@ const MINUTES: [u32; 4] = [99, 100, 159, 160];
 pub fn play(rt: &HostRuntime) -> anyhow::Result<()> {
     match Rulebook::read(&SMALL_FILE) {
         Ok(book) => {
-            println!(rt; "{book}")?;
+            book.print(rt)?;
             let view = book.view();
             seniority(rt, &view)?;
             verdicts(rt, &view)

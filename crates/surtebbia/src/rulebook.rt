@@ -28,8 +28,17 @@ impl Rulebook {
     pub fn view(&self) -> View<Hall> {
         self.opened.book.view(&self.rules, &self.entries)
     }
+
+    // The book in words. Each line is printed by itself, so that it goes out whole: printed all at once, lines are cut where the
+    // buffer of a print is full.
+    pub fn print(&self, rt: &HostRuntime) -> anyhow::Result<()> {
+        println!(rt; "{self}")?;
+        lines(rt, &self.rules, self.opened.book.rules())?;
+        lines(rt, &self.entries, self.opened.book.entries())
+    }
 }
 
+// The line above its rules and entries.
 impl fmt::Display for Rulebook {
     fn fmt<W: fmt::Write>(&self, f: &mut fmt::Formatter<W>) -> fmt::Result {
         let policy = self.opened.policy;
@@ -41,28 +50,20 @@ impl fmt::Display for Rulebook {
         write!(
             f,
             "edition 2, policy {code} ({policy}), {rule_count} {rule_word}, {entry_count} {entry_word}"
-        )?;
-        lines(f, &self.rules, rule_count)?;
-        lines(f, &self.entries, entry_count)?;
-        Ok(())
+        )
     }
 }
 
 // The first of the items, each with its number on a line of its own.
-fn lines<T: Copy, W: fmt::Write>(
-    f: &mut fmt::Formatter<W>,
-    items: &[T],
-    count: usize,
-) -> fmt::Result
+fn lines<T: Copy>(rt: &HostRuntime, items: &[T], count: usize) -> anyhow::Result<()>
 where
     Numbered<T>: fmt::Display,
 {
     for (number, item) in items.iter().take(count).enumerate() {
-        let line = Numbered {
+        rt.println(Numbered {
             number,
             item: *item,
-        };
-        write!(f, "\n{line}")?;
+        })?;
     }
     Ok(())
 }
@@ -73,10 +74,12 @@ pub fn run(rt: &HostRuntime, given: &[String]) -> anyhow::Result<()> {
         return words::bad(rt, "expected one file after", "book");
     };
     match open(rt, path.as_str())? {
-        Ok(book) => println!(rt; "{book}")?,
-        Err(fault) => println!(rt; "refused: {fault}")?,
+        Ok(book) => book.print(rt),
+        Err(fault) => {
+            println!(rt; "refused: {fault}")?;
+            Ok(())
+        }
     }
-    Ok(())
 }
 
 // The rulebook in the file.
