@@ -3,7 +3,7 @@
 use crate::bytes;
 use book::read;
 use hall::{Hall, blank_entries, blank_rules};
-use std::alloc::{AllocError, Global};
+use std::str::SplitWhitespace;
 
 // A rulebook file, and how much memory it is read into.
 #[derive(Drop)]
@@ -11,38 +11,37 @@ pub struct Case<'a> {
     name: &'a str,
     rules: usize,
     entries: usize,
-    file: Vec<u8>,
+    file: SplitWhitespace<'a>,
 }
 
 impl<'a> Case<'a> {
     // The case of the line, none where it is empty or a comment.
-    pub fn parse(alloc: Global, line: &'a str) -> Result<Option<Case<'a>>, AllocError> {
+    pub fn parse(line: &'a str) -> Option<Case<'a>> {
         let mut words = line.split_whitespace();
-        let Some(name) = words.next().filter(|_| !line.starts_with('#')) else {
-            return Ok(None);
-        };
+        let name = words.next().filter(|_| !line.starts_with('#'))?;
         let rules = bytes::number(words.next());
         let entries = bytes::number(words.next());
-        let mut file = Vec::new(alloc);
-        for word in words {
-            bytes::append(&mut file, word)?;
-        }
-        Ok(Some(Case {
+        Some(Case {
             name,
             rules,
             entries,
-            file,
-        }))
+            file: words,
+        })
     }
 
-    pub fn play(&self, rt: &HostRuntime) -> anyhow::Result<()> {
+    // Reads the file, whose bytes are put together only here: as a part of the case that takes longer.
+    pub fn play(self, rt: &HostRuntime) -> anyhow::Result<()> {
         let name = self.name;
+        let mut file = Vec::new(rt.alloc());
+        for word in self.file {
+            bytes::append(&mut file, word)?;
+        }
         let mut rules = blank_rules();
         let mut entries = blank_entries();
         let most_rules = self.rules.min(64);
         let most_entries = self.entries.min(32);
         match read::<Hall>(
-            self.file.as_slice(),
+            file.as_slice(),
             &mut rules[..most_rules],
             &mut entries[..most_entries],
         ) {

@@ -11,7 +11,7 @@ fn main(rt: HostRuntime) -> anyhow::Result<()> {
     drafts::play(&rt)?;
     for line in rt.lines(rt.alloc()) {
         let text = line?;
-        if let Some(case) = Case::parse(rt.alloc(), text.as_str())? {
+        if let Some(case) = Case::parse(text.as_str()) {
             case.play(&rt)?;
         }
     }
