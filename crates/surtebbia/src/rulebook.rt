@@ -74,12 +74,10 @@ pub fn run(rt: &HostRuntime, given: &[String]) -> anyhow::Result<()> {
         return words::bad(rt, "expected one file after", "book");
     };
     match open(rt, path.as_str())? {
-        Ok(book) => book.print(rt),
-        Err(fault) => {
-            println!(rt; "refused: {fault}")?;
-            Ok(())
-        }
+        Ok(book) => book.print(rt)?,
+        Err(fault) => println!(rt; "refused: {fault}")?,
     }
+    Ok(())
 }
 
 // The rulebook in the file.
